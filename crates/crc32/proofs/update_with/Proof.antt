@@ -1,0 +1,82 @@
+use mathlib.Core.Path.{_≡_, refl, ap, _∙_}
+use Prim.Native.Nat.{ℕ, _<_, _≤_, _-_, _+_, _^_}
+use lib.ListN.{length, drop}
+use native.Mathlib.Omega.{arith}
+use Rattle.num.specs.Number.{leBytes}
+use Rattle.crc32.specs.V42.{updateOf}
+use Rattle.crc32.proofs.Walk.{word-step}
+use borrow.Author.Needs.{needs}
+use Rattle.crc32.proofs.update_with.Statement.{statement}
+use Rattle.crc32.proofs.update_with.Tie as tie
+use Rattle.crc32.proofs.update_with.Reads as reads
+use Rattle.crc32.proofs.update_with.Lts as lts
+use Rattle.crc32.proofs.eight.Reads as eight-reads
+use Rattle.crc32.proofs.update_rest.Reads as update-rest-reads
+use Rattle.num.proofs.u64_at.Reads as u64-at-reads
+
+abbrev Inv-loop : tie.InvT-loop
+Inv-loop table state «data» c₀ i₀ c i = (i ≤ length «data») × (c < 2 ^ 32) × (updateOf c (drop i «data») ≡ updateOf state «data»)
+
+abbrev μ-loop : tie.MeasureT-loop
+μ-loop table state «data» c₀ i₀ c i = length «data» - i
+
+-- src/lib.rt:74:5
+loop-holds : tie.Need-loop-holds Inv-loop μ-loop
+loop-holds c = (search needs, c .before .fits .state .fits, refl)
+
+-- src/lib.rt:74:16
+sub-loop : tie.Need-sub-loop Inv-loop μ-loop
+sub-loop c = search needs
+
+-- src/lib.rt:75:29
+u64-at-requires : tie.Need-u64-at-requires Inv-loop μ-loop
+u64-at-requires c κs = search needs
+
+-- src/lib.rt:75:9
+eight-requires : tie.Need-eight-requires Inv-loop μ-loop
+eight-requires c κs = search needs
+
+-- src/lib.rt:76:9
+add-i : tie.Need-add-i Inv-loop μ-loop
+add-i c = search needs
+
+-- src/lib.rt:74:5
+loop-less : tie.Need-loop-less Inv-loop μ-loop
+loop-less c = search needs
+
+-- src/lib.rt:74:5
+loop-again : tie.Need-loop-again Inv-loop μ-loop
+loop-again c =
+    let l = c .before .before .before in
+    let s = l .before .before .args .«data» .now in
+    let i = l .loop .i in (
+      omega arith,
+      omega arith,
+      ap (λ (r : ℕ). updateOf r (drop (i + 8) s)) (c .eight .ensures ∙ ap (λ (v : ℕ). updateOf (l .loop .c) (leBytes 8 v)) (c .before .u64-at .ensures))
+          ∙ word-step s i (l .loop .c) (λ k. l .before .shared-slice-known .given k .fits) (l .loop .inv .1) (omega arith)
+          ∙ l .loop .inv .2,
+    )
+
+-- src/lib.rt:78:5
+update-rest-requires : tie.Need-update-rest-requires Inv-loop μ-loop
+update-rest-requires c κs = search needs
+
+-- src/lib.rt:68:1
+returns : tie.Need-returns Inv-loop μ-loop
+returns c = c .update-rest .ensures ∙ c .before .before .loop .inv .2
+
+pub update-with-spec : {M : Type 1} → statement M
+update-with-spec =
+    tie.close
+    (tie.spec
+    Inv-loop
+    μ-loop
+    loop-holds
+    sub-loop
+    u64-at-requires
+    eight-requires
+    add-i
+    loop-less
+    loop-again
+    update-rest-requires
+    returns)

@@ -1,0 +1,2 @@
+pub mod V42
+pub mod Table

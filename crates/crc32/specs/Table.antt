@@ -1,0 +1,35 @@
+-- The rule of the eight slicing tables, as one test over a whole table.
+use Prim.Native.Nat.{ℕ, suc, _/_, _%_}
+use mathlib.Core.List.{List, [], _∷_}
+use mathlib.Core.Bool.{Bool, true, false}
+use lib.Dec.{eqb}
+use lib.ListN.{length, getD}
+use lib.Bits.{bitXor}
+use Rattle.num.specs.Choice.{both}
+use Rattle.crc32.specs.V42.{updateOf}
+
+-- the first row: at i stands the register after the byte i, from a register of zeros
+unfoldable pub isFirst : ℕ → List ℕ → Bool
+isFirst i [] = true
+isFirst i (x ∷ xs) = both (eqb x (updateOf 0 (i ∷ []))) (isFirst (suc i) xs)
+
+-- a later row: each entry is that of the row before, one zero byte on, which the first row gives
+unfoldable pub isNext : List ℕ → List ℕ → List ℕ → Bool
+isNext first [] [] = true
+isNext first [] (x ∷ xs) = false
+isNext first (p ∷ ps) [] = false
+isNext first (p ∷ ps) (x ∷ xs) = both (eqb x (bitXor (getD first (p % 256) 0) (p / 256))) (isNext first ps xs)
+
+unfoldable pub areNext : List ℕ → List ℕ → List (List ℕ) → Bool
+areNext first previous [] = true
+areNext first previous (r ∷ rs) = both (isNext first previous r) (areNext first r rs)
+
+-- eight rows of 256 entries by that rule
+unfoldable pub isTable : List (List ℕ) → Bool
+isTable [] = false
+isTable (r ∷ rs) = both (eqb (length rs) 7) (both (eqb (length r) 256) (both (isFirst 0 r) (areNext r r rs)))
+
+-- names all definitions of this file: `unfolding table-defs` opens them
+unfoldable pub table-defs : ℕ
+unfolding isFirst isNext areNext isTable
+table-defs = 0

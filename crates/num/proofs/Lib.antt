@@ -1,0 +1,6 @@
+pub mod Choice
+pub mod Lists
+pub mod Number
+pub mod Order
+pub mod Product
+pub mod Xor

@@ -1,0 +1,27 @@
+-- Choices by tests, as the definitions of all crates write them.
+use Prim.Native.Nat.{ℕ}
+use mathlib.Core.Bool.{Bool, true, false}
+use mathlib.Core.List.{List, [], _∷_}
+use lib.Dec.{eqb}
+
+unfoldable pub if_then_else_ : {A : Type 0} → Bool → A → A → A
+if_then_else_ true a b = a
+if_then_else_ false a b = b
+
+unfoldable pub both : Bool → Bool → Bool
+both true b = b
+both false b = false
+
+unfoldable pub either : Bool → Bool → Bool
+either true b = true
+either false b = b
+
+-- is the number one of these?
+unfoldable pub oneOf : List ℕ → ℕ → Bool
+oneOf [] n = false
+oneOf (x ∷ xs) n = either (eqb n x) (oneOf xs n)
+
+-- names all definitions of this file: `unfolding choice-defs` opens them
+unfoldable pub choice-defs : ℕ
+unfolding if_then_else_ both either oneOf
+choice-defs = 0

@@ -1,0 +1,92 @@
+// Numbers modulo 2^64, and little-endian numbers in byte slices.
+ghost use mathlib.Core.Path.{_≡_};
+ghost use mathlib.Core.Bool.{true};
+ghost use Prim.Native.Nat.{_+_, _≤_, _<_};
+ghost use lib.ListN.{length};
+ghost use lib.Seq.{sets};
+ghost use Rattle.num.specs.Number.{leAt, leBytes, isWidth};
+ghost use Rattle.num.specs.Wrapping.{mulMod, rotl};
+
+// The product modulo 2^64, from halves of 32 bits.
+pub fn wrapping_mul(a: u64, b: u64) -> u64
+    ensures { λ r. ⌜ r ≡ mulMod a b ⌝ }
+{
+    let ah = a / 0x1_0000_0000;
+    let al = a % 0x1_0000_0000;
+    let bh = b / 0x1_0000_0000;
+    let bl = b % 0x1_0000_0000;
+    let cross = std::num::wrapping_add_u64(ah * bl, al * bh);
+    std::num::wrapping_add_u64(al * bl, cross << 32)
+}
+
+pub fn rotate_left(x: u64, k: u32) -> u64
+    requires { ⌜ (0 < k) × (k < 64) ⌝ }
+    ensures { λ r. ⌜ r ≡ rotl x k ⌝ }
+{
+    (x << k) | (x >> (64 - k))
+}
+
+// A byte as a number, with its bound at hand.
+pub fn wide(x: u8) -> u64
+    ensures { λ r. ⌜ (r ≡ x) × (r < 256) ⌝ }
+{
+    x as u64
+}
+
+pub fn u16_at(raw: &[u8], at: usize) -> u64
+    requires { ⌜ at + 2 ≤ length (now raw) ⌝ }
+    ensures { λ r. ⌜ (r ≡ leAt (now (raw .entry)) at 2) × (r < 65536) ⌝ }
+{
+    let low = wide(raw[at]);
+    let high = wide(raw[at + 1]);
+    low + 256 * high
+}
+
+pub fn u32_at(raw: &[u8], at: usize) -> u32
+    requires { ⌜ at + 4 ≤ length (now raw) ⌝ }
+    ensures { λ r. ⌜ r ≡ leAt (now (raw .entry)) at 4 ⌝ }
+{
+    let low = u16_at(raw, at);
+    let high = u16_at(raw, at + 2);
+    (low + 0x1_0000 * high) as u32
+}
+
+pub fn u64_at(raw: &[u8], at: usize) -> u64
+    requires { ⌜ at + 8 ≤ length (now raw) ⌝ }
+    ensures { λ r. ⌜ r ≡ leAt (now (raw .entry)) at 8 ⌝ }
+{
+    let low = u32_at(raw, at) as u64;
+    let high = u32_at(raw, at + 4) as u64;
+    low + 0x1_0000_0000 * high
+}
+
+// The number in the `width` bytes at `at`.
+pub fn uint(raw: &[u8], at: usize, width: usize) -> u64
+    requires { ⌜ (at + width ≤ length (now raw)) × (isWidth width ≡ true) ⌝ }
+    ensures { λ r. ⌜ r ≡ leAt (now (raw .entry)) at width ⌝ }
+{
+    if width == 1 {
+        return wide(raw[at]);
+    }
+    if width == 2 {
+        return u16_at(raw, at);
+    }
+    if width == 4 {
+        return u32_at(raw, at) as u64;
+    }
+    u64_at(raw, at)
+}
+
+// Writes the low bytes of `value`, `width` of them, at `at`.
+pub fn put_uint(out: &mut [u8], at: usize, width: usize, value: u64)
+    requires { ⌜ at + width ≤ length (now out) ⌝ }
+    ensures { λ r. ⌜ now (out .exit) ≡ sets (now (out .entry)) at (leBytes width value) ⌝ }
+{
+    let mut v = value;
+    let mut i = 0;
+    while i < width {
+        out[at + i] = (v % 256) as u8;
+        v = v / 256;
+        i += 1;
+    }
+}

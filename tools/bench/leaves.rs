@@ -1,0 +1,105 @@
+//! CRC-32, hash and block verify.
+use crate::blocks::{Entry, block};
+use crate::measure::{Row, Work};
+use crate::rng::Rng;
+use std::hint::black_box;
+
+/// The work of asking `ask` again and again.
+fn repeated(mut ask: impl FnMut() -> u64 + 'static) -> Work {
+    Box::new(move |times| (0..times).fold(0, |sum, _| sum ^ ask()))
+}
+
+fn row(name: String, limit: Option<f64>, ours: Work, rust: Work) -> Row {
+    Row { name, ours, rust, units: 1, limit }
+}
+
+fn size(bytes: usize) -> String {
+    match bytes {
+        0x10_0000 => "1 MiB".to_string(),
+        1024 => "1 KiB".to_string(),
+        bytes => format!("{bytes} bytes"),
+    }
+}
+
+const SIZES: [usize; 5] = [8, 16, 64, 1024, 1 << 20];
+
+fn rust_crc(data: Vec<u8>) -> Work {
+    use oracle::crc32::{INITIAL, access::update_scalar, finalize};
+    repeated(move || finalize(update_scalar(INITIAL, black_box(&data))).into())
+}
+
+#[cfg(has = "kiban_crc32")]
+pub fn crc(rng: &mut Rng) -> Vec<Row> {
+    unsafe extern "C" {
+        fn kiban_crc32(data: *const u8, length: usize) -> u32;
+    }
+    let one = |bytes| {
+        let data = rng.bytes(bytes);
+        let lent = data.clone();
+        // SAFETY: the pointer and length are those of a live buffer.
+        let ours = repeated(move || unsafe { kiban_crc32(black_box(&lent).as_ptr(), lent.len()).into() });
+        row(format!("crc32, {}", size(bytes)), None, ours, rust_crc(data))
+    };
+    SIZES.map(one).into()
+}
+
+#[cfg(has = "probe_crc32_lent")]
+pub fn crc_lent(rng: &mut Rng) -> Vec<Row> {
+    unsafe extern "C" {
+        fn probe_crc32_lent(table: *const [[u32; 256]; 8], data: *const u8, length: usize) -> u32;
+    }
+    let table = oracle::crc32::access::slices();
+    let one = |bytes| {
+        let data = rng.bytes(bytes);
+        let lent = data.clone();
+        // SAFETY: the pointers and the length are those of live buffers.
+        let ours = repeated(move || unsafe { probe_crc32_lent(table, black_box(&lent).as_ptr(), lent.len()).into() });
+        let limit = if bytes < 64 { 2.0 } else { 1.1 };
+        row(format!("crc32, table lent, {}", size(bytes)), Some(limit), ours, rust_crc(data))
+    };
+    SIZES.map(one).into()
+}
+
+#[cfg(has = "probe_hash")]
+pub fn hash(rng: &mut Rng) -> Vec<Row> {
+    unsafe extern "C" {
+        fn probe_hash(key: *const u8, length: usize, seed: u64) -> u64;
+    }
+    let one = |bytes| {
+        let key = rng.bytes(bytes);
+        let lent = key.clone();
+        // SAFETY: the pointer and length are those of a live buffer.
+        let ours = repeated(move || unsafe { probe_hash(black_box(&lent).as_ptr(), lent.len(), black_box(7)) });
+        let rust = repeated(move || oracle::point::hash(black_box(&key), black_box(7)));
+        row(format!("hash, {bytes}-byte key"), Some(1.1), ours, rust)
+    };
+    [8, 20].map(one).into()
+}
+
+/// A block of entries with 20-byte keys and 40-byte values.
+fn sample(rng: &mut Rng, count: usize) -> Vec<u8> {
+    let mut keys: Vec<Vec<u8>> = (0..count).map(|_| rng.bytes(20)).collect();
+    keys.sort();
+    let entry = |key| Entry { kind: 1, key, value: vec![7; 40], sequence: 9 };
+    let entries: Vec<Entry> = keys.into_iter().map(entry).collect();
+    block(&entries, 16).0
+}
+
+#[cfg(has = "probe_verify")]
+pub fn verify(rng: &mut Rng) -> Vec<Row> {
+    unsafe extern "C" {
+        fn probe_verify(raw: *const u8, length: usize, meta: *mut [u64; 3]) -> u64;
+    }
+    let one = |count| {
+        let raw = sample(rng, count);
+        let (lent, name) = (raw.clone(), format!("block verify, {} bytes", raw.len()));
+        let ours = repeated(move || {
+            let mut meta = [0; 3];
+            // SAFETY: the pointers and the length are those of live buffers.
+            unsafe { probe_verify(black_box(&lent).as_ptr(), lent.len(), &mut meta) ^ meta[0] }
+        });
+        let rust = repeated(move || oracle::block::verify_plain(black_box(&raw)).map_or(1, |m| m.entries_end as u64));
+        row(name, Some(1.2), ours, rust)
+    };
+    [1, 50, 800].map(one).into()
+}

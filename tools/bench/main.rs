@@ -1,0 +1,52 @@
+//! Measures our library and the Rust on the same inputs. usage: bench [--rounds N]
+// A row that is left out leaves its helpers unused.
+#![allow(dead_code, unused_imports)]
+
+#[path = "../common/blocks.rs"]
+mod blocks;
+#[path = "../common/rng.rs"]
+mod rng;
+
+mod leaves;
+mod measure;
+
+use rng::Rng;
+
+// Rows are built only if the archive has their function: the script passes its names as `has`.
+macro_rules! rows {
+    ($rng:expr, $($symbol:literal: $rows:path;)*) => {{
+        let mut all = Vec::new();
+        $(
+            #[cfg(has = $symbol)]
+            all.extend($rows($rng));
+            #[cfg(not(has = $symbol))]
+            println!("not measured, not in the archive: {}", $symbol);
+        )*
+        all
+    }};
+}
+
+fn rounds() -> usize {
+    let words: Vec<String> = std::env::args().skip(1).collect();
+    match words.iter().map(String::as_str).collect::<Vec<_>>()[..] {
+        [] => 201,
+        ["--rounds", n] if n.parse().is_ok_and(|n: usize| n > 0) => n.parse().expect("a number"),
+        _ => {
+            eprintln!("usage: bench [--rounds N]");
+            std::process::exit(2)
+        }
+    }
+}
+
+fn main() {
+    let rounds = rounds();
+    let rng = &mut Rng::part(1, "bench", 0);
+    let rows = rows! { rng,
+        "probe_crc32_lent": leaves::crc_lent;
+        "kiban_crc32": leaves::crc;
+        "probe_hash": leaves::hash;
+        "probe_verify": leaves::verify;
+    };
+    println!("{rounds} interleaved rounds, medians, per call or per record");
+    measure::measure(rows, rounds);
+}

@@ -1,0 +1,55 @@
+//! Blocks of chosen records and restart intervals.
+
+/// Kind 1 is a Put, kind 2 a Tombstone.
+#[derive(Clone, Debug)]
+pub struct Entry {
+    pub kind: u8,
+    pub key: Vec<u8>,
+    pub value: Vec<u8>,
+    pub sequence: u64,
+}
+
+fn common(a: &[u8], b: &[u8]) -> usize {
+    a.iter().zip(b).take_while(|(x, y)| x == y).count()
+}
+
+/// A block with a restart at every `interval`-th entry, and the place of each value in it.
+pub fn block(entries: &[Entry], interval: usize) -> (Vec<u8>, Vec<usize>) {
+    let (mut raw, mut restarts, mut places) = (Vec::new(), Vec::new(), Vec::new());
+    for (i, entry) in entries.iter().enumerate() {
+        let shared = if i % interval == 0 {
+            restarts.push(raw.len() as u32);
+            0
+        } else {
+            common(&entries[i - 1].key, &entry.key)
+        };
+        raw.push(entry.kind);
+        for length in [shared, entry.key.len() - shared, entry.value.len()] {
+            raw.extend((length as u32).to_le_bytes());
+        }
+        raw.extend(entry.sequence.to_le_bytes());
+        raw.extend(&entry.key[shared..]);
+        places.push(raw.len());
+        raw.extend(&entry.value);
+    }
+    (close(raw, &restarts), places)
+}
+
+/// Restarts, type and CRC-32 behind the bytes of the entries.
+pub fn close(mut raw: Vec<u8>, restarts: &[u32]) -> Vec<u8> {
+    for restart in restarts {
+        raw.extend(restart.to_le_bytes());
+    }
+    raw.extend((restarts.len() as u32).to_le_bytes());
+    raw.extend([0; 5]);
+    seal(&mut raw);
+    raw
+}
+
+/// Writes the CRC-32 of all before the last four bytes into them.
+pub fn seal(raw: &mut [u8]) {
+    if let Some(end) = raw.len().checked_sub(4) {
+        let crc = oracle::crc32::crc32(&raw[..end]);
+        raw[end..].copy_from_slice(&crc.to_le_bytes());
+    }
+}

@@ -1,0 +1,51 @@
+//! Buffers lent to the library, with guard bytes on both sides that must stay.
+use crate::case::Answer;
+
+const GUARD: usize = 16;
+const FILL: u8 = 0xa5;
+
+pub struct Buffer {
+    bytes: Vec<u8>,
+    start: usize,
+    length: usize,
+}
+
+impl Buffer {
+    /// A buffer of this length that begins with these bytes, `shift` bytes from an aligned place.
+    pub fn new(length: usize, beginning: &[u8], shift: u64) -> Self {
+        let start = GUARD + (shift % 8) as usize;
+        let mut bytes = vec![FILL; start + length + GUARD];
+        bytes[start..start + beginning.len()].copy_from_slice(beginning);
+        Buffer { bytes, start, length }
+    }
+
+    pub fn input(bytes: &[u8], shift: u64) -> Self {
+        Buffer::new(bytes.len(), bytes, shift)
+    }
+
+    pub fn part(&self) -> &[u8] {
+        &self.bytes[self.start..self.start + self.length]
+    }
+
+    pub fn as_ptr(&self) -> *const u8 {
+        self.part().as_ptr()
+    }
+
+    pub fn as_mut_ptr(&mut self) -> *mut u8 {
+        self.bytes[self.start..].as_mut_ptr()
+    }
+
+    pub fn len(&self) -> usize {
+        self.length
+    }
+
+    /// The answer, or one that no side expects if a byte outside the lent part was written.
+    pub fn guarded(&self, answer: Answer) -> Answer {
+        let (before, after) = (&self.bytes[..self.start], &self.bytes[self.start + self.length..]);
+        if before.iter().chain(after).all(|&byte| byte == FILL) {
+            answer
+        } else {
+            Answer { bytes: b"written outside a lent buffer".to_vec(), ..answer }
+        }
+    }
+}

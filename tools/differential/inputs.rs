@@ -1,0 +1,46 @@
+//! Inputs that several layers share.
+use crate::blocks::{Entry, block};
+use crate::entries::{cut, entries};
+use crate::rng::Rng;
+
+/// All byte strings of length 0, 1 and 2.
+pub fn tiny(mut each: impl FnMut(&[u8])) {
+    each(&[]);
+    (0..=255).for_each(|a| each(&[a]));
+    (0..=u16::MAX).for_each(|ab| each(&ab.to_le_bytes()));
+}
+
+/// A valid block, where its entries begin, and the length of its longest key.
+pub struct Sample {
+    pub raw: Vec<u8>,
+    pub starts: Vec<usize>,
+    pub longest_key: usize,
+}
+
+fn sample(part: &[Entry], interval: usize) -> Sample {
+    let (raw, places) = block(part, interval);
+    let ends = places.iter().zip(part).map(|(place, entry)| place + entry.value.len());
+    let starts = [0].into_iter().chain(ends).take(part.len()).collect();
+    let longest_key = part.iter().map(|entry| entry.key.len()).max().unwrap_or(0);
+    if interval == 16 {
+        assert_eq!(raw, rust_block(part), "our blocks are the Rust's");
+    }
+    Sample { raw, starts, longest_key }
+}
+
+fn rust_block(part: &[Entry]) -> Vec<u8> {
+    let mut builder = oracle::block::Builder::default();
+    for entry in part {
+        builder.add(entry.kind, &entry.key, &entry.value, entry.sequence);
+    }
+    builder.finish()
+}
+
+/// At most four blocks of one random store.
+pub fn samples(rng: &mut Rng) -> Vec<Sample> {
+    let count = if rng.one_in(60) { 1200 } else { rng.pick(&[1, 2, 4, 8, 40]) };
+    let interval = rng.pick(&[1, 2, 3, 16, 16, 1000]);
+    let entries = entries(rng, count);
+    let parts = cut(rng, &entries);
+    parts.into_iter().take(4).map(|part| sample(part, interval)).collect()
+}

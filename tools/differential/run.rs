@@ -1,0 +1,57 @@
+//! Asks both sides, counts the answers, and stops at the first difference.
+use crate::case::{Answer, Case};
+use crate::numbers::NO_NUMBER;
+use crate::shrink::shrink;
+use std::collections::BTreeMap;
+use std::process::exit;
+
+/// Our answer and the Rust's, or nothing where a case lies outside what may be asked.
+pub type Ask = fn(&Case) -> Option<(Answer, Answer)>;
+
+#[derive(Default)]
+pub struct Run {
+    /// For each kind of case: how often the Rust's side gave each number.
+    counts: BTreeMap<&'static str, BTreeMap<u64, u64>>,
+    pub place: String,
+}
+
+impl Run {
+    pub fn compare(&mut self, ask: Ask, case: Case) {
+        let Some((ours, rust)) = ask(&case) else { return };
+        if ours != rust {
+            self.report(ask, case);
+        }
+        *self.counts.entry(case.kind).or_default().entry(rust.number).or_default() += 1;
+    }
+
+    fn report(&self, ask: Ask, case: Case) -> ! {
+        let differs = |c: &Case| ask(c).is_some_and(|(ours, rust)| ours != rust);
+        let small = shrink(case, differs);
+        let (ours, rust) = ask(&small).expect("a case that differs");
+        println!("DIFFERENCE in {}, made smaller:", self.place);
+        println!("case: {small}");
+        println!("ours: {ours}");
+        println!("expected: {rust}");
+        println!("To ask it again: tools/differential/run --case - and this case line on standard input.");
+        exit(1)
+    }
+
+    /// The table of what was compared.
+    pub fn finish(&self) {
+        println!("{:<14} {:>12}  answers: number x cases", "kind", "cases");
+        for (kind, numbers) in &self.counts {
+            let cases: u64 = numbers.values().sum();
+            let each: Vec<String> = numbers.iter().map(|(n, c)| format!("{} x {c}", name(*n))).collect();
+            println!("{kind:<14} {cases:>12}  {}", each.join(", "));
+        }
+        let all: u64 = self.counts.values().flat_map(|n| n.values()).sum();
+        println!("{all} cases, no difference");
+    }
+}
+
+fn name(number: u64) -> String {
+    match number {
+        NO_NUMBER => "panic".to_string(),
+        number => number.to_string(),
+    }
+}

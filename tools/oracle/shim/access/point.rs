@@ -1,0 +1,123 @@
+//! Lends what point.rs keeps private: the hash and its companions, slots, the builder.
+use super::{PointBuilder, compact};
+use crate::sstable::Kind;
+use crate::{caught, caught_plain};
+
+#[inline(never)]
+pub fn hash(key: &[u8], seed: u64) -> u64 {
+    super::hash(key, seed)
+}
+
+#[inline(never)]
+pub fn mix(h: u64) -> u64 {
+    super::mix(h)
+}
+
+#[inline(never)]
+pub fn fingerprint(h: u64) -> u16 {
+    super::fingerprint(h)
+}
+
+pub fn bucket(h: u64, count: usize) -> Result<usize, String> {
+    caught_plain(|| super::bucket(h, count))
+}
+
+pub fn position(h: u64, pilot: u32, n: usize) -> Result<usize, String> {
+    caught_plain(|| super::position(h, pilot, n))
+}
+
+/// The slot that a pilot names: `index` with this pilot in its only bucket.
+pub fn slot(h: u64, pilot: u32, n: usize) -> Result<usize, String> {
+    caught_plain(|| super::index(h, &[pilot], n))
+}
+
+/// Seed, pilots, and for each slot the place of its key.
+pub fn construct(keys: &[&[u8]]) -> Result<(u64, Vec<u32>, Vec<usize>), String> {
+    caught(|| super::construct_with_bucket_size(keys, 2))
+}
+
+/// The numbers that a builder counts, in the order of the builder record without its places.
+#[derive(Clone, Copy, Debug, Default, PartialEq)]
+pub struct Totals {
+    pub keys: usize,
+    pub versions: usize,
+    pub suffix_bytes: usize,
+    pub least: u64,
+    pub greatest: u64,
+    pub longest_key: u32,
+    pub longest_value: u32,
+    pub most_versions: u32,
+    pub last_offset: u64,
+}
+
+/// The size of a section by totals alone.
+pub fn section_len(totals: &Totals, prefix: usize) -> Result<usize, String> {
+    let builder = PointBuilder {
+        heads: vec![0; totals.keys],
+        suffix_bytes: totals.suffix_bytes,
+        versions: totals.versions,
+        min_seq: totals.least,
+        max_seq: totals.greatest,
+        max_key_len: totals.longest_key,
+        max_value_len: totals.longest_value,
+        max_versions: totals.most_versions,
+        last_value_offset: totals.last_offset,
+        ..PointBuilder::with_scan_prefix_len(prefix)
+    };
+    caught_plain(|| builder.approximate_size())
+}
+
+pub fn width(max: u64) -> usize {
+    compact::access::width(max)
+}
+
+pub struct Builder(PointBuilder);
+
+impl Builder {
+    pub fn new(prefix: usize) -> Self {
+        Builder(PointBuilder::with_scan_prefix_len(prefix))
+    }
+
+    /// `add`, then `set_value_offset` on that entry.
+    pub fn add(
+        &mut self,
+        kind: u8,
+        key: &[u8],
+        value: &[u8],
+        sequence: u64,
+        new_key: bool,
+        offset: u64,
+    ) -> Result<(), String> {
+        let kind = Kind::from_u8(kind).expect("kind 1 or 2");
+        let patch = caught(|| self.0.add(kind, key, value, sequence, new_key))?;
+        self.0.set_value_offset(patch, offset);
+        Ok(())
+    }
+
+    pub fn size(&self) -> Result<usize, String> {
+        caught_plain(|| self.0.approximate_size())
+    }
+
+    pub fn totals(&self) -> Totals {
+        Totals {
+            keys: self.0.heads.len(),
+            versions: self.0.versions,
+            suffix_bytes: self.0.suffix_bytes,
+            least: self.0.min_seq,
+            greatest: self.0.max_seq,
+            longest_key: self.0.max_key_len,
+            longest_value: self.0.max_value_len,
+            most_versions: self.0.max_versions,
+            last_offset: self.0.last_value_offset,
+        }
+    }
+
+    /// The builder's bytes, where each key begins in them, and each version's CRC-32.
+    pub fn area(&self) -> (&[u8], &[usize], &[u32]) {
+        (&self.0.arena, &self.0.heads, &self.0.checksums)
+    }
+
+    pub fn finish(self) -> Result<Vec<u8>, String> {
+        caught(|| self.0.finish())
+    }
+}

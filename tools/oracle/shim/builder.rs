@@ -1,0 +1,2 @@
+//! sstable/mod.rs re-exports this name; the file itself is not published.
+pub struct TableBuilder;
