@@ -82,7 +82,7 @@ fn sample(rng: &mut Rng, count: usize) -> Vec<u8> {
     keys.sort();
     let entry = |key| Entry { kind: 1, key, value: vec![7; 40], sequence: 9 };
     let entries: Vec<Entry> = keys.into_iter().map(entry).collect();
-    block(&entries, 16).0
+    block(&entries, 16).raw
 }
 
 #[cfg(has = "probe_verify")]

@@ -13,9 +13,17 @@ fn common(a: &[u8], b: &[u8]) -> usize {
     a.iter().zip(b).take_while(|(x, y)| x == y).count()
 }
 
-/// A block with a restart at every `interval`-th entry, and the place of each value in it.
-pub fn block(entries: &[Entry], interval: usize) -> (Vec<u8>, Vec<usize>) {
-    let (mut raw, mut restarts, mut places) = (Vec::new(), Vec::new(), Vec::new());
+/// A block, where its entries begin, and where their values do.
+pub struct Block {
+    pub raw: Vec<u8>,
+    pub starts: Vec<usize>,
+    pub places: Vec<usize>,
+}
+
+/// A block with a restart at every `interval`-th entry.
+pub fn block(entries: &[Entry], interval: usize) -> Block {
+    let (mut raw, mut restarts) = (Vec::new(), Vec::new());
+    let (mut starts, mut places) = (Vec::new(), Vec::new());
     for (i, entry) in entries.iter().enumerate() {
         let shared = if i % interval == 0 {
             restarts.push(raw.len() as u32);
@@ -23,6 +31,7 @@ pub fn block(entries: &[Entry], interval: usize) -> (Vec<u8>, Vec<usize>) {
         } else {
             common(&entries[i - 1].key, &entry.key)
         };
+        starts.push(raw.len());
         raw.push(entry.kind);
         for length in [shared, entry.key.len() - shared, entry.value.len()] {
             raw.extend((length as u32).to_le_bytes());
@@ -32,7 +41,8 @@ pub fn block(entries: &[Entry], interval: usize) -> (Vec<u8>, Vec<usize>) {
         places.push(raw.len());
         raw.extend(&entry.value);
     }
-    (close(raw, &restarts), places)
+    let raw = close(raw, &restarts);
+    Block { raw, starts, places }
 }
 
 /// Restarts, type and CRC-32 behind the bytes of the entries.

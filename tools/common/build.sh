@@ -34,15 +34,18 @@ build_library() {
     [ -f "$lib" ] || { echo "no archive $lib" >&2 && exit 2; }
 }
 
-# Passes each exported name that the archive has as --cfg has="NAME", so that layers whose functions
-# are not there are left out.
+# Passes each exported name that the archive has as --cfg has="NAME", so that what needs functions that
+# are not there is left out. Without an archive the program has the oracle alone.
 build_program() { # MAIN NAME
-    local has=() name
-    for name in $(nm --defined-only "$lib" 2>/dev/null | awk '$2 == "T" && $3 ~ /^(kiban|probe)_/ { print $3 }' | sort -u); do
-        has+=(--cfg "has=\"$name\"")
-    done
+    local flags=() name
+    if [ -n "$lib" ]; then
+        flags+=(-C link-arg="$lib")
+        for name in $(nm --defined-only "$lib" | awk '$2 == "T" && $3 ~ /^(kiban|probe)_/ { print $3 }' | sort -u); do
+            flags+=(--cfg "has=\"$name\"")
+        done
+    fi
     rustc --edition 2024 --crate-name "$2" -C opt-level=3 -C debug-assertions=off \
-        --check-cfg 'cfg(has, values(any()))' "${has[@]}" -L "$out" \
+        --check-cfg 'cfg(has, values(any()))' "${flags[@]}" -L "$out" \
         --extern oracle="$out/liboracle.rlib" --extern oracle_stable="$out/liboracle_stable.rlib" \
-        -C link-arg="$lib" -o "$out/$2" "$1"
+        -o "$out/$2" "$1"
 }

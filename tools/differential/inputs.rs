@@ -1,5 +1,5 @@
 //! Inputs that several layers share.
-use crate::blocks::{Entry, block};
+use crate::blocks::{Block, Entry, block};
 use crate::entries::{cut, entries};
 use crate::rng::Rng;
 
@@ -10,22 +10,19 @@ pub fn tiny(mut each: impl FnMut(&[u8])) {
     (0..=u16::MAX).for_each(|ab| each(&ab.to_le_bytes()));
 }
 
-/// A valid block, where its entries begin, and the length of its longest key.
+/// A valid block and the length of its longest key.
 pub struct Sample {
-    pub raw: Vec<u8>,
-    pub starts: Vec<usize>,
+    pub block: Block,
     pub longest_key: usize,
 }
 
 fn sample(part: &[Entry], interval: usize) -> Sample {
-    let (raw, places) = block(part, interval);
-    let ends = places.iter().zip(part).map(|(place, entry)| place + entry.value.len());
-    let starts = [0].into_iter().chain(ends).take(part.len()).collect();
+    let block = block(part, interval);
     let longest_key = part.iter().map(|entry| entry.key.len()).max().unwrap_or(0);
     if interval == 16 {
-        assert_eq!(raw, rust_block(part), "our blocks are the Rust's");
+        assert_eq!(block.raw, rust_block(part), "our blocks are the Rust's");
     }
-    Sample { raw, starts, longest_key }
+    Sample { block, longest_key }
 }
 
 fn rust_block(part: &[Entry]) -> Vec<u8> {

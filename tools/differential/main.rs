@@ -10,11 +10,18 @@ mod damage;
 mod entries;
 #[path = "../common/numbers.rs"]
 mod numbers;
+#[path = "../common/opening.rs"]
+mod opening_expected;
+#[path = "../common/reading.rs"]
+mod reading;
 #[path = "../common/rng.rs"]
 mod rng;
+#[path = "../common/stores.rs"]
+mod stores;
 
 mod buffer;
 mod case;
+mod forge;
 mod inputs;
 mod run;
 mod shrink;
@@ -62,6 +69,9 @@ layers! {
     walk: "probe_record";
     width: "probe_width";
     section_len: "probe_section_len";
+    opening: "kiban_open" "kiban_open_packed";
+    lookup: "kiban_lookup" "kiban_value";
+    spans: "kiban_span";
 }
 
 struct Options {

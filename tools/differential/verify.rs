@@ -71,8 +71,8 @@ fn restarts(run: &mut Run, raw: &[u8]) {
 
 fn fixed(run: &mut Run) {
     let entry = |key: &[u8]| Entry { kind: 1, key: key.to_vec(), value: Vec::new(), sequence: 5 };
-    let least = block(&[entry(b"")], 1).0;
-    let two = block(&[entry(b"a"), entry(b"ab")], 1).0;
+    let least = block(&[entry(b"")], 1).raw;
+    let two = block(&[entry(b"a"), entry(b"ab")], 1).raw;
     for raw in [&least, &two] {
         around(run, raw);
         restarts(run, raw);
@@ -88,9 +88,9 @@ fn fixed(run: &mut Run) {
 fn round(run: &mut Run, rng: &mut Rng) {
     for sample in samples(rng) {
         let shift = rng.next() % 8;
-        run.compare(ask, Case::new("verify", &[shift], &[&sample.raw]));
+        run.compare(ask, Case::new("verify", &[shift], &[&sample.block.raw]));
         for _ in 0..6 {
-            let raw = damage(&sample.raw, &sample.starts, rng);
+            let raw = damage(&sample.block.raw, &sample.block.starts, rng);
             run.compare(ask, Case::new("verify", &[shift], &[&raw]));
         }
     }

@@ -135,8 +135,8 @@ fn fixed(run: &mut Run) {
         value: value.to_vec(),
         sequence: 5,
     };
-    let one = crate::blocks::block(&[entry(b"", b"", 1)], 1).0;
-    let two = crate::blocks::block(&[entry(b"ab", b"x", 1), entry(b"abc", b"", 2)], 16).0;
+    let one = crate::blocks::block(&[entry(b"", b"", 1)], 1).raw;
+    let two = crate::blocks::block(&[entry(b"ab", b"x", 1), entry(b"abc", b"", 2)], 16).raw;
     for raw in [&one, &two] {
         for at in 0..raw.len() - 4 {
             for value in 0..=255 {
@@ -171,12 +171,12 @@ fn round(run: &mut Run, rng: &mut Rng) {
     for sample in samples(rng) {
         let longest = sample.longest_key;
         let rooms = [longest, longest.saturating_sub(1), rng.between(0, longest + 1), 5000];
-        walks(run, &sample.raw, &rooms, rng.next() % 8);
-        steps(run, &sample.raw, &sample.starts, rng);
+        walks(run, &sample.block.raw, &rooms, rng.next() % 8);
+        steps(run, &sample.block.raw, &sample.block.starts, rng);
         for _ in 0..6 {
-            let raw = damage(&sample.raw, &sample.starts, rng);
+            let raw = damage(&sample.block.raw, &sample.block.starts, rng);
             walks(run, &raw, &[longest, 5000], rng.next() % 8);
-            steps(run, &raw, &sample.starts, rng);
+            steps(run, &raw, &sample.block.starts, rng);
         }
     }
 }

@@ -206,7 +206,6 @@ crc-update s =
     let l : length p ≡ 32 = length-remainders (replicate 32 true) (content s) refl in
     ap (λ (q : List Bool). numberOf (map not q)) (sym (bits-number p) ∙ ap (λ (n : ℕ). bitsOf n (numberOf p)) l ∙ ap (λ (q : List Bool). bitsOf 32 (numberOf (remainders q (content s)))) preset)
 
-
 number-lt : (p : List Bool) → numberOf p < 2 ^ length p
 number-lt p = let n = number-not p in omega arith
 

@@ -1,14 +1,109 @@
--- Parts of lists, and lists of bytes.
+-- What stands at a position of a list, parts of parts, stores into regions, and lists of bytes.
+-- A part of n elements from a place is `take n (drop place l)`; a run of stores is `sets`.
 -- Assumes nothing.
 use mathlib.Core.Path.{_≡_, refl, sym, ap, _∙_}
-use mathlib.Core.List.{List, [], _∷_, _++_}
+use mathlib.Core.List.{List, [], _∷_, _++_, append-assoc}
 use Prim.Native.Nat.{ℕ, zero, suc, _+_, _-_, _<_, _≤_}
-use native.Mathlib.Nat.{le-of-suc-le-suc, not-suc-le-zero}
+use native.Mathlib.Nat.{add-zero}
 use native.Mathlib.Omega.{arith}
 use lib.Dec.{lit<}
-use lib.ListN.{length, getD, take, drop, replicate, length-append}
-use lib.Seq.{sets, getD-drop, drop-drop, take-at, drop-at}
+use lib.ListN.{length, getD, set, take, drop, replicate, length-append, length-drop, List·getD-append}
+use lib.Seq.{sets, sets-eq, getD-drop, getD-take, getD-set-other, drop-drop, take-add, take-take, take-at, drop-at, take-set-le, drop-set-lt, drop-set-add, length-take-le}
 use Rattle.num.specs.Number.{Bytes}
+
+module _ {ℓ} {A : Type ℓ} where
+  -- ---- what stands at a position: `drop place l ≡ t ++ rest`
+
+  -- behind what stands at a place stands the rest
+  pub standing-next : (l t rest : List A) (place : ℕ) → drop place l ≡ t ++ rest → drop (place + length t) l ≡ rest
+  standing-next l t rest place e = sym (drop-drop (length t) place l) ∙ ap (drop (length t)) e ∙ drop-at t rest (length t) refl
+
+  -- the part at the place is what stands there
+  pub standing-part : (l t rest : List A) (place : ℕ) → drop place l ≡ t ++ rest → take (length t) (drop place l) ≡ t
+  standing-part l t rest place e = ap (take (length t)) e ∙ take-at t rest (length t) refl
+
+  -- the elements from the place on are those of what stands there
+  pub standing-at : (l t rest : List A) (place k : ℕ) (d : A) → drop place l ≡ t ++ rest → k < length t → getD l (place + k) d ≡ getD t k d
+  standing-at l t rest place k d e h = sym (getD-drop place l k d) ∙ ap (λ (m : List A). getD m k d) e ∙ List·getD-append t rest d k h
+
+  -- what stands at a place lies inside
+  pub standing-inside : (l t rest : List A) (place : ℕ) → drop place l ≡ t ++ rest → place ≤ length l → place + length t + length rest ≡ length l
+  standing-inside l t rest place e h = omega (arith, length-drop place l, ap length e, length-append t rest)
+
+  -- ---- parts of parts
+
+  pub part-length : (l : List A) (place n : ℕ) → place + n ≤ length l → length (take n (drop place l)) ≡ n
+  part-length l place n h = length-take-le n (drop place l) (omega (arith, length-drop place l))
+
+  pub part-at : (l : List A) (place n k : ℕ) (d : A) → k < n → getD (take n (drop place l)) k d ≡ getD l (place + k) d
+  part-at l place n k d h = getD-take n (drop place l) k d h ∙ getD-drop place l k d
+
+  -- a part is followed by the part behind it
+  pub part-append : (l : List A) (place n m : ℕ) → take (n + m) (drop place l) ≡ take n (drop place l) ++ take m (drop (place + n) l)
+  part-append l place n m = take-add n m (drop place l) ∙ ap (λ (r : List A). take n (drop place l) ++ take m r) (drop-drop n place l)
+
+  take-drop-take : (at m n : ℕ) (l : List A) → at + m ≤ n → take m (drop at (take n l)) ≡ take m (drop at l)
+  take-drop-take zero m n l h = take-take m n l (omega arith)
+  take-drop-take (suc at) m zero l h = absurd (let z : _≡_ {A = ℕ} 0 1 = omega arith in omega arith)
+  take-drop-take (suc at) m (suc n) [] h = refl
+  take-drop-take (suc at) m (suc n) (x ∷ l) h = take-drop-take at m n l (omega arith)
+
+  -- a part of a part is a part
+  pub part-part : (l : List A) (place n at m : ℕ) → at + m ≤ n → take m (drop at (take n (drop place l))) ≡ take m (drop (place + at) l)
+  part-part l place n at m h = take-drop-take at m n (drop place l) h ∙ ap (take m) (drop-drop at place l)
+
+  -- ---- stores
+
+  pub sets-append : (w v l : List A) (i : ℕ) → sets (sets l i w) (i + length w) v ≡ sets l i (w ++ v)
+  sets-append [] v l i = ap (λ (n : ℕ). sets l n v) (add-zero i)
+  sets-append (a ∷ w) v l i =
+      let e : i + suc (length w) ≡ suc i + length w = omega arith in
+      ap (λ (n : ℕ). sets (sets (set l i a) (suc i) w) n v) e ∙ sets-append w v (set l i a) (suc i)
+
+  -- an element before a run of stores stays
+  pub getD-sets-before : (vs l : List A) (i k : ℕ) (d : A) → k < i → getD (sets l i vs) k d ≡ getD l k d
+  getD-sets-before [] l i k d h = refl
+  getD-sets-before (a ∷ vs) l i k d h =
+      getD-sets-before vs (set l i a) (suc i) k d (omega arith) ∙ getD-set-other l i k a d (λ e. omega arith)
+
+  -- an element behind a run of stores stays
+  pub getD-sets-behind : (vs l : List A) (i k : ℕ) (d : A) → i + length vs ≤ k → getD (sets l i vs) k d ≡ getD l k d
+  getD-sets-behind [] l i k d h = refl
+  getD-sets-behind (a ∷ vs) l i k d h =
+      getD-sets-behind vs (set l i a) (suc i) k d (omega arith) ∙ getD-set-other l i k a d (λ e. omega arith)
+
+  -- a run of stores stands where it was stored, before what stood behind it
+  pub standing-sets : (vs l : List A) (i : ℕ) → i + length vs ≤ length l → drop i (sets l i vs) ≡ vs ++ drop (i + length vs) l
+  standing-sets vs l i h =
+      ap (drop i) (sets-eq vs l i h ∙ append-assoc (take i l) vs (drop (i + length vs) l))
+      ∙ drop-at (take i l) (vs ++ drop (i + length vs) l) i (length-take-le i l (omega arith))
+
+  -- the region itself holds what was stored
+  pub part-sets-same : (vs l : List A) (i : ℕ) → i + length vs ≤ length l → take (length vs) (drop i (sets l i vs)) ≡ vs
+  part-sets-same vs l i h = standing-part (sets l i vs) vs (drop (i + length vs) l) i (standing-sets vs l i h)
+
+  -- an element in a run of stores is what was stored
+  pub getD-sets-inside : (vs l : List A) (i k : ℕ) (d : A) → k < length vs → i + length vs ≤ length l → getD (sets l i vs) (i + k) d ≡ getD vs k d
+  getD-sets-inside vs l i k d h b = standing-at (sets l i vs) vs (drop (i + length vs) l) i k d (standing-sets vs l i b) h
+
+  part-set-before : (l : List A) (i place n : ℕ) (a : A) → place + n ≤ i → take n (drop place (set l i a)) ≡ take n (drop place l)
+  part-set-before l i place n a h =
+      let e : i ≡ place + (i - place) = omega arith in
+      ap (λ (k : ℕ). take n (drop place (set l k a))) e
+      ∙ ap (take n) (drop-set-add place l (i - place) a)
+      ∙ take-set-le n (drop place l) (i - place) a (omega arith)
+
+  -- a run of stores into one region leaves a region before it
+  pub part-sets-before : (vs l : List A) (i place n : ℕ) → place + n ≤ i → take n (drop place (sets l i vs)) ≡ take n (drop place l)
+  part-sets-before [] l i place n h = refl
+  part-sets-before (a ∷ vs) l i place n h = part-sets-before vs (set l i a) (suc i) place n (omega arith) ∙ part-set-before l i place n a h
+
+  -- a run of stores into one region leaves all behind it
+  pub drop-sets-behind : (vs l : List A) (i place : ℕ) → i + length vs ≤ place → drop place (sets l i vs) ≡ drop place l
+  drop-sets-behind [] l i place h = refl
+  drop-sets-behind (a ∷ vs) l i place h = drop-sets-behind vs (set l i a) (suc i) place (omega arith) ∙ drop-set-lt place l i a (omega arith)
+
+-- ---- lists of bytes
 
 pub bytes-take : (n : ℕ) (s : List ℕ) → Bytes s → Bytes (take n s)
 bytes-take zero s h k = lit< tt

@@ -4,7 +4,7 @@ use mathlib.Core.Path.{_≡_, refl, sym, ap, ap₂, _∙_}
 use mathlib.Core.List.{List, [], _∷_, _++_, append-assoc}
 use mathlib.Core.Bool.{true}
 use Prim.Native.Nat.{ℕ, zero, suc, _+_, _*_, _-_, _/_, _%_, _<_, _≤_, _^_}
-use native.Mathlib.Nat.{add-suc, suc-add, zero-add, add-zero, add-assoc, mul-add, mul-assoc, mul-suc, add-comm}
+use native.Mathlib.Nat.{add-suc, suc-add, zero-add, add-zero, add-assoc, mul-add, mul-assoc, mul-suc, add-comm, not-suc-le-zero}
 use native.Mathlib.Numerals.{add-one}
 use native.Mathlib.Omega.{arith}
 use lib.Pow.{pow-add}
@@ -151,3 +151,17 @@ leAt-halves s w at a b p q = ap₂ (λ (x y : ℕ). x + 2 ^ (8 * w) * y) p q ∙
 pub width-8 : (w : ℕ) → isWidth w ≡ true → (w ≡ 1 → ⊥) → (w ≡ 2 → ⊥) → (w ≡ 4 → ⊥) → w ≡ 8
 unfolding isWidth
 width-8 w e n₁ n₂ n₄ = oneOf-only 8 w (oneOf-next 4 _ w n₄ (oneOf-next 2 _ w n₂ (oneOf-next 1 _ w n₁ e)))
+
+-- equal numbers of a width were read from equal bytes
+pub leAt-bytes : (s t : List ℕ) → Bytes s → Bytes t → (w p q : ℕ) → leAt s p w ≡ leAt t q w → (k : ℕ) → k < w → getD s (p + k) 0 ≡ getD t (q + k) 0
+unfolding leAt
+leAt-bytes s t bs bt zero p q e k h = absurd (not-suc-le-zero h)
+leAt-bytes s t bs bt (suc w) p q e zero h =
+    ap (λ (n : ℕ). getD s n 0) (add-zero p) ∙ omega (arith, bs p, bt q) ∙ ap (λ (n : ℕ). getD t n 0) (sym (add-zero q))
+leAt-bytes s t bs bt (suc w) p q e (suc k) h =
+    ap (λ (n : ℕ). getD s n 0) (shift p)
+    ∙ leAt-bytes s t bs bt w (suc p) (suc q) (omega (arith, bs p, bt q)) k (omega arith)
+    ∙ ap (λ (n : ℕ). getD t n 0) (sym (shift q))
+  where
+    shift : (m : ℕ) → m + suc k ≡ suc m + k
+    shift m = omega arith

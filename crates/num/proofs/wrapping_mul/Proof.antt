@@ -31,7 +31,7 @@ wrapping-add-u64-requires-2 c κs = search needs
 
 -- src/lib.rt:11:1
 returns : tie.Need-returns
-returns c = 
+returns c =
     let a = c .before .before .args in
     c .wrapping-add-u642 .ensures
     ∙ ap (λ (x : ℕ). (((a .a % 2 ^ 32) * (a .b % 2 ^ 32)) + (x * 2 ^ 32) % 2 ^ 64) % 2 ^ 64) (c .before .wrapping-add-u64 .ensures)

@@ -3,20 +3,15 @@ use Rattle.num.specs.Choice.{if_then_else_}
 use Rattle.sstable.specs.Kind.{kindOf}
 use Rattle.sstable.proofs.Kind.from_u8.Statement.{statement}
 use Rattle.sstable.proofs.Kind.from_u8.Tie as tie
-use Rattle.sstable.proofs.Kind.from_u8.Reads as reads
-use Rattle.sstable.proofs.Kind.from_u8.Lts as lts
 
--- src/lib.rt:30:13
 returns : tie.Need-returns
 unfolding kindOf if_then_else_
 returns c = rw (eq-eqb _ _ (c .if1 .taken))
 
--- src/lib.rt:33:13
 returns-2 : tie.Need-returns-2
 unfolding kindOf if_then_else_
 returns-2 c = rw (ne-eqb _ _ (c .before .if1 .left), eq-eqb _ _ (c .if2 .taken))
 
--- src/lib.rt:26:5
 returns-3 : tie.Need-returns-3
 unfolding kindOf if_then_else_
 returns-3 c = rw (ne-eqb _ _ (c .before .if1 .left), ne-eqb _ _ (c .if2 .left))

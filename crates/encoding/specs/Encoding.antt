@@ -1,0 +1,131 @@
+-- The widths of a section's numbers, its lengths, and the constants of its format.
+use mathlib.Core.Path.{_≡_}
+use mathlib.Core.Bool.{true}
+use mathlib.Core.List.{List, [], _∷_}
+use Prim.Native.Nat.{ℕ, _+_, _*_, _-_, _/_, _^_, _≤_}
+use lib.Dec.{leb, ltb}
+use Rattle.num.specs.Choice.{if_then_else_, either, oneOf}
+use Rattle.encoding.specs.declared.Totals.{Totals}
+use Rattle.encoding.specs.declared.Encoding.{Encoding}
+
+-- `KIBANPH3` (question 3)
+unfoldable pub magic : List ℕ
+magic = 75 ∷ 73 ∷ 66 ∷ 65 ∷ 78 ∷ 80 ∷ 72 ∷ 51 ∷ []
+
+-- `KIBANSC1` (question 5)
+unfoldable pub scanMagic : List ℕ
+scanMagic = 75 ∷ 73 ∷ 66 ∷ 65 ∷ 78 ∷ 83 ∷ 67 ∷ 49 ∷ []
+
+-- the bytes before the pilots
+abbrev pub headerLen : ℕ
+headerLen = 64
+
+-- the bytes of the scan part before its addresses
+abbrev pub scanHeaderLen : ℕ
+scanHeaderLen = 24
+
+-- the type byte and the CRC-32 at a section's end
+abbrev pub trailerLen : ℕ
+trailerLen = 5
+
+-- the flags of question 4
+abbrev pub checksumFlag : ℕ
+checksumFlag = 1
+
+abbrev pub scanFlag : ℕ
+scanFlag = 2
+
+-- the stride of question 6
+abbrev pub stride : ℕ
+stride = 32
+
+-- the longest scan prefix (questions 6 and 35)
+abbrev pub maxScanPrefix : ℕ
+maxScanPrefix = 24
+
+-- every key at a multiple of this is an anchor (question 16)
+abbrev pub group : ℕ
+group = 1024
+
+-- the least width of 1, 2, 4 and 8 bytes that holds every number up to max
+unfoldable pub widthOf : ℕ → ℕ
+widthOf max = if_then_else_ (leb max 255) 1 (if_then_else_ (leb max 65535) 2 (if_then_else_ (leb max 4294967295) 4 8))
+
+-- the width of value lengths up to max with a bit above them
+unfoldable pub valueWidthOf : ℕ → ℕ
+valueWidthOf max = if_then_else_ (ltb max 32768) 2 4
+
+-- the widths that question 4 allows
+pub record Widths (e : Encoding) : Type 0 where
+  pub address : oneOf (4 ∷ 8 ∷ []) (e .address) ≡ true
+  pub key : oneOf (1 ∷ 2 ∷ 4 ∷ []) (e .key) ≡ true
+  pub count : oneOf (1 ∷ 2 ∷ 4 ∷ []) (e .count) ≡ true
+  pub seq : oneOf (1 ∷ 2 ∷ 4 ∷ 8 ∷ []) (e .seq) ≡ true
+  pub value : oneOf (2 ∷ 4 ∷ []) (e .value) ≡ true
+
+-- what size's question 37 asks of these totals; the used bytes, on which no length depends, are asked with the builder
+pub record Bounded (t : Totals) : Type 0 where
+  pub keys : t .keys ≤ 2 ^ 30
+  pub versions : t .versions ≤ 2 ^ 30
+  pub suffix-bytes : t .«suffix_bytes» ≤ 2 ^ 30
+  pub max-key-len : t .«max_key_len» ≤ 2 ^ 30
+  pub max-value-len : t .«max_value_len» ≤ 2 ^ 30
+  pub max-versions : t .«max_versions» ≤ 2 ^ 30
+  pub seqs : t .«min_seq» ≤ t .«max_seq»
+
+-- the bytes of a key record before its suffix: anchor, shared length, suffix length, number of versions
+unfoldable pub keyHeaderOf : Encoding → ℕ
+keyHeaderOf e = e .address + 2 * e .key + e .count
+
+-- the bytes of a version: sequence, value length, value offset, and the CRC-32 with checksums
+unfoldable pub versionOf : Encoding → ℕ
+versionOf e = e .seq + e .value + e .address + if_then_else_ (e .checksum) 4 0
+
+-- the bytes of all key records
+unfoldable pub arenaLenOf : Encoding → Totals → ℕ
+arenaLenOf e t = t .keys * keyHeaderOf e + t .«suffix_bytes» + t .versions * versionOf e
+
+-- the number of buckets: half the keys, rounded up (question 4)
+unfoldable pub bucketsOf : ℕ → ℕ
+bucketsOf n = (n + 1) / 2
+
+-- where the arena starts: behind the header, the pilots and the slots (question 4)
+unfoldable pub arenaStartOf : ℕ → ℕ → ℕ
+arenaStartOf n address = headerLen + 4 * bucketsOf n + n * (address + 2)
+
+-- the bytes of the scan part and of its length (question 5), none without a prefix
+unfoldable pub scanLenOf : Encoding → Totals → ℕ → ℕ
+scanLenOf e t prefix = if_then_else_ (ltb 0 prefix) (scanHeaderLen + t .keys * e .address + 8) 0
+
+-- the bytes of a whole section
+unfoldable pub sectionLenOf : Encoding → Totals → ℕ → ℕ
+sectionLenOf e t prefix = arenaStartOf (t .keys) (e .address) + arenaLenOf e t + scanLenOf e t prefix + trailerLen
+
+-- the top bit of a value length
+unfoldable pub tombstoneOf : Encoding → ℕ
+tombstoneOf e = 2 ^ (8 * e .value - 1)
+
+-- addresses and value offsets have 8 bytes if the arena with 4 or the last offset goes beyond 4
+unfoldable pub addressWidthOf : ℕ → ℕ → ℕ
+addressWidthOf arena last = if_then_else_ (either (ltb 4294967295 arena) (ltb 4294967295 last)) 8 4
+
+-- the encoding of the totals with addresses of a width
+unfoldable pub encodingWith : ℕ → Totals → Encoding
+encodingWith address t =
+    record {
+      address = address;
+      key = widthOf (t .«max_key_len»);
+      count = widthOf (t .«max_versions»);
+      seq = widthOf (t .«max_seq» - t .«min_seq»);
+      value = valueWidthOf (t .«max_value_len»);
+      checksum = true;
+    }
+
+-- the encoding that a builder's totals ask for
+unfoldable pub encodingOf : Totals → Encoding
+encodingOf t = encodingWith (addressWidthOf (arenaLenOf (encodingWith 4 t) t) (t .«last_value_offset»)) t
+
+-- names all definitions of this file: `unfolding encoding-defs` opens them
+unfoldable pub encoding-defs : ℕ
+unfolding magic scanMagic widthOf valueWidthOf keyHeaderOf versionOf arenaLenOf bucketsOf arenaStartOf scanLenOf sectionLenOf tombstoneOf addressWidthOf encodingWith encodingOf if_then_else_ either
+encoding-defs = 0

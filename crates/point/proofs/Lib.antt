@@ -1,0 +1,3 @@
+pub mod Hashing
+pub mod Slots
+pub mod Examples

@@ -1,0 +1,182 @@
+//! Plain and packed opening: questions 1 to 23.
+use crate::Layer;
+use crate::blocks::Entry;
+use crate::buffer::Buffer;
+use crate::case::{Answer, Case};
+use crate::forge::{Input, forge, le64};
+use crate::opening_expected as expected;
+use crate::rng::Rng;
+use crate::run::Run;
+use oracle::compact::Index;
+
+unsafe extern "C" {
+    fn kiban_open(
+        section: *const u8,
+        section_len: usize,
+        data: *const u8,
+        data_len: usize,
+        blocks: *const u64,
+        blocks_len: usize,
+        scratch: *mut u8,
+        scratch_len: usize,
+        record: *mut [u64; 16],
+    ) -> u64;
+    fn kiban_open_packed(
+        section: *const u8,
+        section_len: usize,
+        data: *const u8,
+        data_len: usize,
+        blocks: *const u64,
+        blocks_len: usize,
+        scratch: *mut u8,
+        scratch_len: usize,
+        output: *mut u8,
+        output_len: usize,
+        record: *mut [u64; 16],
+        length: *mut u64,
+    ) -> u64;
+}
+
+pub const LAYER: Layer = Layer { name: "opening", kinds: &["open", "open_packed"], ask, fixed, round };
+
+/// What record and length hold before the call.
+const BEFORE: [u64; 16] = [77; 16];
+const OUTPUT: u8 = 0xa5;
+
+fn numbers(bytes: &[u8]) -> Option<Vec<u64>> {
+    let (chunks, []) = bytes.as_chunks::<8>() else { return None };
+    Some(chunks.iter().map(|&chunk| u64::from_le_bytes(chunk)).collect())
+}
+
+/// Numbers: scratch, shift, and for the packed form the length of the output. Parts: section, data, list.
+fn ask(case: &Case) -> Option<(Answer, Answer)> {
+    let list = numbers(&case.bytes[2])?;
+    match case.kind {
+        "open" => Some((our_plain(case, &list), rust_plain(case, &list))),
+        _ => Some((our_packed(case, &list), rust_packed(case, &list))),
+    }
+}
+
+/// The words of an answer: the record, then the length for the packed form.
+fn words(record: &[u64; 16], length: &[u64]) -> Vec<u64> {
+    [record, length].concat()
+}
+
+fn our_plain(case: &Case, list: &[u64]) -> Answer {
+    let shift = case.numbers[1];
+    let (section, data) = (Buffer::input(&case.bytes[0], shift), Buffer::input(&case.bytes[1], shift + 3));
+    let mut scratch = Buffer::new(case.numbers[0] as usize, b"", shift);
+    let mut record = BEFORE;
+    // SAFETY: the pointers and lengths are those of live buffers.
+    let number = unsafe {
+        kiban_open(
+            section.as_ptr(),
+            section.len(),
+            data.as_ptr(),
+            data.len(),
+            list.as_ptr(),
+            list.len(),
+            scratch.as_mut_ptr(),
+            scratch.len(),
+            &mut record,
+        )
+    };
+    scratch.guarded(Answer { number, ..Answer::words(words(&record, &[])) })
+}
+
+fn our_packed(case: &Case, list: &[u64]) -> Answer {
+    let shift = case.numbers[1];
+    let (section, data) = (Buffer::input(&case.bytes[0], shift), Buffer::input(&case.bytes[1], shift + 3));
+    let mut scratch = Buffer::new(case.numbers[0] as usize, b"", shift);
+    let mut output = Buffer::new(case.numbers[2] as usize, b"", shift + 1);
+    let (mut record, mut length) = (BEFORE, BEFORE[0]);
+    // SAFETY: the pointers and lengths are those of live buffers.
+    let number = unsafe {
+        kiban_open_packed(
+            section.as_ptr(),
+            section.len(),
+            data.as_ptr(),
+            data.len(),
+            list.as_ptr(),
+            list.len(),
+            scratch.as_mut_ptr(),
+            scratch.len(),
+            output.as_mut_ptr(),
+            output.len(),
+            &mut record,
+            &mut length,
+        )
+    };
+    let answer = Answer { number, words: words(&record, &[length]), bytes: output.part().to_vec() };
+    scratch.guarded(output.guarded(answer))
+}
+
+/// The record as sixteen numbers.
+pub fn record(index: &Index) -> [u64; 16] {
+    let mut record = [0; 16];
+    record[..13].copy_from_slice(&index.record());
+    record
+}
+
+fn rust_plain(case: &Case, list: &[u64]) -> Answer {
+    match expected::plain(&case.bytes[0], &case.bytes[1], list, case.numbers[0] as usize) {
+        Ok(index) => Answer::words(words(&record(&index), &[])),
+        Err(number) => Answer { number, ..Answer::words(words(&BEFORE, &[])) },
+    }
+}
+
+fn rust_packed(case: &Case, list: &[u64]) -> Answer {
+    let (scratch, room) = (case.numbers[0] as usize, case.numbers[2] as usize);
+    let mut output = vec![OUTPUT; room];
+    match expected::packed(&case.bytes[0], &case.bytes[1], list, scratch, room) {
+        Ok(index) => {
+            let packed = index.bytes();
+            output[..packed.len()].copy_from_slice(packed);
+            let words = words(&record(&index), &[packed.len() as u64]);
+            Answer { words, bytes: output, ..Answer::default() }
+        }
+        Err(number) => Answer { number, words: words(&BEFORE, &BEFORE[..1]), bytes: output },
+    }
+}
+
+fn both(run: &mut Run, input: &Input, scratch: usize, output: usize, shift: u64) {
+    let parts: [&[u8]; 3] = [&input.section, &input.data, &le64(&input.list)];
+    run.compare(ask, Case::new("open", &[scratch as u64, shift], &parts));
+    run.compare(ask, Case::new("open_packed", &[scratch as u64, shift, output as u64], &parts));
+}
+
+/// Each byte of a small store's section and data changed, sealed again and not, and each cut.
+fn fixed(run: &mut Run) {
+    for prefix in [0, 1] {
+        let worked = crate::forge::worked(prefix);
+        for scratch in 0..8 {
+            for output in [0, 129, 130, 131, 200] {
+                both(run, &worked, scratch, output, 0);
+            }
+        }
+        for input in crate::forge::neighbours(&worked) {
+            both(run, &input, 64, 200, 0);
+        }
+    }
+    long_keys(run);
+}
+
+/// Question 14: keys and values at the limits and beyond.
+fn long_keys(run: &mut Run) {
+    for (key, value) in [(1 << 20, 1), ((1 << 20) + 1, 1), (1, 1 << 24), (1, (1 << 24) + 1)] {
+        let entry = Entry { kind: 1, key: vec![5; key], value: vec![6; value], sequence: 1 };
+        let input = crate::forge::build(&mut Rng::part(1, "long", 0), vec![entry], None);
+        for scratch in [2 * key, 2 * key - 1] {
+            both(run, &input, scratch, input.section.len(), 0);
+        }
+    }
+}
+
+fn round(run: &mut Run, rng: &mut Rng) {
+    for input in forge(rng) {
+        let scratch = if rng.one_in(4) { rng.between(0, 2 * input.longest_key + 2) } else { 2000 };
+        let less = if rng.one_in(4) { rng.between(0, 40) } else { 0 };
+        let output = input.section.len().saturating_sub(less);
+        both(run, &input, scratch, output, rng.next() % 8);
+    }
+}
