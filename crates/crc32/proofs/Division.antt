@@ -15,8 +15,8 @@ use Rattle.num.specs.Choice.{if_then_else_, choice-defs}
 use Rattle.num.specs.Number.{Bytes}
 use Rattle.num.proofs.Xor.{xor-assoc, bit-ind}
 use Rattle.num.proofs.Lists.{bytes-append}
-use Rattle.crc32.specs.V42.{sum, add, bitsOf, content, numberOf, remainders, crcOf, updateOf, finalizeOf, generator, polynomial, crc-defs}
-use Rattle.crc32.proofs.Polynomial.{rest, length-rest, reduced, length-reduced, remainders-none, remainders-bit, length-remainders}
+use Rattle.crc32.specs.V42.{sum, add, bitsOf, content, numberOf, sumOfRemainders, crcOf, updateOf, finalizeOf, generator, polynomial, crc-defs}
+use Rattle.crc32.proofs.Polynomial.{rest, length-rest, reduced, length-reduced, remainders-none, remainders-bit, length-sumOfRemainders}
 use Rattle.crc32.proofs.Register.{poly, bitStep, steps, byteStep, register, step-linear, step-even, low-high, register-append}
 
 bit : Bool → ℕ
@@ -89,8 +89,8 @@ xor-bit c x n =
     let e : bit x ≡ 0 * 2 + bit x = omega arith in
     ap (bitXor (n * 2 + bit c)) e ∙ xor-cons c x n 0 ∙ ap (λ (k : ℕ). k * 2 + bit (sum c x)) (xor-zero-r n)
 
--- the two remainders together are the register after the bits
-remainders-feed : (m r : List Bool) → length r ≡ 32 → numberOf (remainders r m) ≡ feed (numberOf r) m
+-- the two sumOfRemainders together are the register after the bits
+remainders-feed : (m r : List Bool) → length r ≡ 32 → numberOf (sumOfRemainders r m) ≡ feed (numberOf r) m
 unfolding feed
 remainders-feed [] r h = ap numberOf (remainders-none r h)
 remainders-feed (x ∷ m) [] h = absurd (let z : _≡_ {A = ℕ} 0 1 = omega arith in omega arith)
@@ -202,9 +202,9 @@ preset = refl
 pub crc-update : (s : List ℕ) → crcOf s ≡ finalizeOf (updateOf 0xFFFFFFFF s)
 unfolding crcOf finalizeOf updateOf
 crc-update s =
-    let p = remainders (replicate 32 true) (content s) in
-    let l : length p ≡ 32 = length-remainders (replicate 32 true) (content s) refl in
-    ap (λ (q : List Bool). numberOf (map not q)) (sym (bits-number p) ∙ ap (λ (n : ℕ). bitsOf n (numberOf p)) l ∙ ap (λ (q : List Bool). bitsOf 32 (numberOf (remainders q (content s)))) preset)
+    let p = sumOfRemainders (replicate 32 true) (content s) in
+    let l : length p ≡ 32 = length-sumOfRemainders (replicate 32 true) (content s) refl in
+    ap (λ (q : List Bool). numberOf (map not q)) (sym (bits-number p) ∙ ap (λ (n : ℕ). bitsOf n (numberOf p)) l ∙ ap (λ (q : List Bool). bitsOf 32 (numberOf (sumOfRemainders q (content s)))) preset)
 
 number-lt : (p : List Bool) → numberOf p < 2 ^ length p
 number-lt p = let n = number-not p in omega arith
@@ -213,8 +213,8 @@ number-lt p = let n = number-not p in omega arith
 pub update-lt : (c : ℕ) (s : List ℕ) → updateOf c s < 2 ^ 32
 unfolding updateOf
 update-lt c s =
-    let p = remainders (bitsOf 32 c) (content s) in
-    let l : 2 ^ length p ≡ 2 ^ 32 = ap (λ (k : ℕ). 2 ^ k) (length-remainders (bitsOf 32 c) (content s) (length-bitsOf 32 c)) in
+    let p = sumOfRemainders (bitsOf 32 c) (content s) in
+    let l : 2 ^ length p ≡ 2 ^ 32 = ap (λ (k : ℕ). 2 ^ k) (length-sumOfRemainders (bitsOf 32 c) (content s) (length-bitsOf 32 c)) in
     omega (arith, number-lt p)
 
 -- the register form of the frame check sequence: preset to ones, one step per bit, complemented

@@ -8,7 +8,7 @@ use native.Mathlib.Nat.{suc-inj, le-of-suc-le-suc, not-suc-le-zero}
 use native.Mathlib.Omega.{arith}
 use lib.ListN.{length, drop, replicate, length-append, length-replicate}
 use Rattle.num.specs.Choice.{if_then_else_, choice-defs}
-use Rattle.crc32.specs.V42.{sum, add, timesX, polynomial, generator, divide, remainder, remainders}
+use Rattle.crc32.specs.V42.{sum, add, timesPower, polynomial, generator, divisionSteps, remainder, sumOfRemainders}
 
 sum-assoc : (a b c : Bool) → sum (sum a b) c ≡ sum a (sum b c)
 unfolding sum
@@ -100,9 +100,9 @@ unfolding reduced rest add if_then_else_ generator polynomial
 step-reduced true p = refl
 step-reduced false p = refl
 
-pub divide-step : (n : ℕ) (c : Bool) (p : List Bool) → divide (suc n) (c ∷ p) ≡ divide n (reduced c p)
-unfolding divide
-divide-step n c p = ap (divide n) (step-reduced c p)
+pub divide-step : (n : ℕ) (c : Bool) (p : List Bool) → divisionSteps (suc n) (c ∷ p) ≡ divisionSteps n (reduced c p)
+unfolding divisionSteps
+divide-step n c p = ap (divisionSteps n) (step-reduced c p)
 
 pub length-reduced : (c : Bool) (p : List Bool) → length (reduced c p) ≡ length p
 unfolding reduced
@@ -117,52 +117,52 @@ reduced-add false true p q h = add-assoc p q rest h
 reduced-add false false p q h = refl
 
 -- the division is linear
-pub divide-add : (n : ℕ) (p q : List Bool) → length p ≡ length q → add (divide n p) (divide n q) ≡ divide n (add p q)
-unfolding divide add
+pub divide-add : (n : ℕ) (p q : List Bool) → length p ≡ length q → add (divisionSteps n p) (divisionSteps n q) ≡ divisionSteps n (add p q)
+unfolding divisionSteps add
 divide-add zero p q h = refl
 divide-add (suc n) [] q h = refl
 divide-add (suc n) (c ∷ p) [] h = absurd (let z : _≡_ {A = ℕ} 0 1 = omega arith in omega arith)
 divide-add (suc n) (c ∷ p) (d ∷ q) h =
     ap₂ add (divide-step n c p) (divide-step n d q)
     ∙ divide-add n (reduced c p) (reduced d q) (length-reduced c p ∙ suc-inj h ∙ sym (length-reduced d q))
-    ∙ ap (divide n) (reduced-add c d p q (suc-inj h))
+    ∙ ap (divisionSteps n) (reduced-add c d p q (suc-inj h))
     ∙ sym (divide-step n (sum c d) (add p q))
 
-length-timesX : (k : ℕ) (p : List Bool) → length (timesX k p) ≡ length p + k
-unfolding timesX
-length-timesX k p = length-append p (replicate k false) ∙ ap (λ (n : ℕ). length p + n) (length-replicate k false)
+length-timesPower : (k : ℕ) (p : List Bool) → length (timesPower k p) ≡ length p + k
+unfolding timesPower
+length-timesPower k p = length-append p (replicate k false) ∙ ap (λ (n : ℕ). length p + n) (length-replicate k false)
 
-pub length-divide : (n : ℕ) (p : List Bool) → length (divide n p) ≡ length p - n
-unfolding divide
-length-divide zero p = omega arith
-length-divide (suc n) [] = omega arith
-length-divide (suc n) (c ∷ p) =
-    ap length (divide-step n c p) ∙ length-divide n (reduced c p) ∙ let e = length-reduced c p in omega arith
+pub length-divisionSteps : (n : ℕ) (p : List Bool) → length (divisionSteps n p) ≡ length p - n
+unfolding divisionSteps
+length-divisionSteps zero p = omega arith
+length-divisionSteps (suc n) [] = omega arith
+length-divisionSteps (suc n) (c ∷ p) =
+    ap length (divide-step n c p) ∙ length-divisionSteps n (reduced c p) ∙ let e = length-reduced c p in omega arith
 
--- the two remainders are that of the sum of the dividends, for a preset of 32 coefficients
-remainders-one : (r m : List Bool) → length r ≡ 32 → remainders r m ≡ divide (length m) (add (timesX (length m) r) (timesX 32 m))
-unfolding remainders remainder
+-- the two sumOfRemainders are that of the sum of the dividends, for a preset of 32 coefficients
+remainders-one : (r m : List Bool) → length r ≡ 32 → sumOfRemainders r m ≡ divisionSteps (length m) (add (timesPower (length m) r) (timesPower 32 m))
+unfolding sumOfRemainders remainder
 remainders-one r m h =
-    let a : length (timesX (length m) r) ≡ length m + 32 = omega (arith, length-timesX (length m) r) in
-    let b : length (timesX 32 m) ≡ length m + 32 = length-timesX 32 m in
+    let a : length (timesPower (length m) r) ≡ length m + 32 = omega (arith, length-timesPower (length m) r) in
+    let b : length (timesPower 32 m) ≡ length m + 32 = length-timesPower 32 m in
     let n : length m + 32 - 32 ≡ length m = omega arith in
-    ap₂ add (ap (λ (k : ℕ). divide (k - 32) (timesX (length m) r)) a ∙ ap (λ (k : ℕ). divide k (timesX (length m) r)) n)
-    (ap (λ (k : ℕ). divide (k - 32) (timesX 32 m)) b ∙ ap (λ (k : ℕ). divide k (timesX 32 m)) n)
-    ∙ divide-add (length m) (timesX (length m) r) (timesX 32 m) (a ∙ sym b)
+    ap₂ add (ap (λ (k : ℕ). divisionSteps (k - 32) (timesPower (length m) r)) a ∙ ap (λ (k : ℕ). divisionSteps k (timesPower (length m) r)) n)
+    (ap (λ (k : ℕ). divisionSteps (k - 32) (timesPower 32 m)) b ∙ ap (λ (k : ℕ). divisionSteps k (timesPower 32 m)) n)
+    ∙ divide-add (length m) (timesPower (length m) r) (timesPower 32 m) (a ∙ sym b)
 
 -- with no content the preset is left
-pub remainders-none : (r : List Bool) → length r ≡ 32 → remainders r [] ≡ r
-unfolding divide timesX
+pub remainders-none : (r : List Bool) → length r ≡ 32 → sumOfRemainders r [] ≡ r
+unfolding divisionSteps timesPower
 remainders-none r h = remainders-one r [] h ∙ add-zeros 32 (r ++ []) ∙ append-nil r
 
-as-timesX : (k : ℕ) (p : List Bool) → p ++ replicate k false ≡ timesX k p
-unfolding timesX
-as-timesX k p = refl
+as-timesPower : (k : ℕ) (p : List Bool) → p ++ replicate k false ≡ timesPower k p
+unfolding timesPower
+as-timesPower k p = refl
 
 divide-first : (c : Bool) (t : List Bool) (x : Bool) (m : List Bool)
-    → divide (length (x ∷ m)) (add (timesX (length (x ∷ m)) (c ∷ t)) (timesX 32 (x ∷ m)))
-    ≡ divide (length m) (reduced (sum c x) (add (t ++ (false ∷ replicate (length m) false)) (timesX 32 m)))
-unfolding timesX add
+    → divisionSteps (length (x ∷ m)) (add (timesPower (length (x ∷ m)) (c ∷ t)) (timesPower 32 (x ∷ m)))
+    ≡ divisionSteps (length m) (reduced (sum c x) (add (t ++ (false ∷ replicate (length m) false)) (timesPower 32 m)))
+unfolding timesPower add
 divide-first c t x m = divide-step (length m) (sum c x) _
 
 reduced-front : (b : Bool) (u z y : List Bool) → length u ≡ 32 → reduced b (add (u ++ z) y) ≡ add (reduced b u ++ z) y
@@ -172,20 +172,20 @@ reduced-front false u z y h = refl
 
 -- a bit of the content: it is added to the leading coefficient of the preset, which decides the step of the division
 pub remainders-bit : (c : Bool) (t : List Bool) (x : Bool) (m : List Bool) → length t ≡ 31
-    → remainders (c ∷ t) (x ∷ m) ≡ remainders (reduced (sum c x) (t ++ (false ∷ []))) m
+    → sumOfRemainders (c ∷ t) (x ∷ m) ≡ sumOfRemainders (reduced (sum c x) (t ++ (false ∷ []))) m
 remainders-bit c t x m h =
     remainders-one (c ∷ t) (x ∷ m) (ap suc h)
     ∙ divide-first c t x m
-    ∙ ap (divide (length m)) (ap (λ (l : List Bool). reduced (sum c x) (add l (timesX 32 m))) (sym (append-assoc t (false ∷ []) (replicate (length m) false)))
-    ∙ reduced-front (sum c x) (t ++ (false ∷ [])) (replicate (length m) false) (timesX 32 m) l)
-    ∙ ap (λ (l : List Bool). divide (length m) (add l (timesX 32 m))) (as-timesX (length m) (reduced (sum c x) (t ++ (false ∷ []))))
+    ∙ ap (divisionSteps (length m)) (ap (λ (l : List Bool). reduced (sum c x) (add l (timesPower 32 m))) (sym (append-assoc t (false ∷ []) (replicate (length m) false)))
+    ∙ reduced-front (sum c x) (t ++ (false ∷ [])) (replicate (length m) false) (timesPower 32 m) l)
+    ∙ ap (λ (l : List Bool). divisionSteps (length m) (add l (timesPower 32 m))) (as-timesPower (length m) (reduced (sum c x) (t ++ (false ∷ []))))
     ∙ sym (remainders-one (reduced (sum c x) (t ++ (false ∷ []))) m (length-reduced (sum c x) (t ++ (false ∷ [])) ∙ l))
   where
     l : length (t ++ (false ∷ [])) ≡ 32
     l = length-append t (false ∷ []) ∙ ap (λ (n : ℕ). n + 1) h
 
-pub length-remainders : (r m : List Bool) → length r ≡ 32 → length (remainders r m) ≡ 32
-length-remainders r m h =
+pub length-sumOfRemainders : (r m : List Bool) → length r ≡ 32 → length (sumOfRemainders r m) ≡ 32
+length-sumOfRemainders r m h =
     ap length (remainders-one r m h)
-    ∙ length-divide (length m) _
-    ∙ omega (arith, length-add (timesX (length m) r) (timesX 32 m), length-timesX (length m) r)
+    ∙ length-divisionSteps (length m) _
+    ∙ omega (arith, length-add (timesPower (length m) r) (timesPower 32 m), length-timesPower (length m) r)

@@ -13,7 +13,8 @@ unfoldable pub isFirst : ℕ → List ℕ → Bool
 isFirst i [] = true
 isFirst i (x ∷ xs) = both (eqb x (updateOf 0 (i ∷ []))) (isFirst (suc i) xs)
 
--- a later row: each entry is that of the row before, one zero byte on, which the first row gives
+-- a later row: each entry is the register after one zero byte more than that of the row before, p: the first row's entry
+-- for the low byte of p, exclusive or the other bits of p
 unfoldable pub isNext : List ℕ → List ℕ → List ℕ → Bool
 isNext first [] [] = true
 isNext first [] (x ∷ xs) = false

@@ -21,7 +21,7 @@ fn entry(table: &[[u32; 256]; 8], slice: usize, byte: u64) -> u32
 }
 
 // The register after the eight bytes of a word, each byte by its own table.
-fn eight(table: &[[u32; 256]; 8], state: u32, bytes: u64) -> u32
+fn update_word(table: &[[u32; 256]; 8], state: u32, bytes: u64) -> u32
     requires { ⌜ isTable (now table) ≡ true ⌝ }
     ensures { λ r. ⌜ r ≡ updateOf state (leBytes 8 bytes) ⌝ }
 {
@@ -41,11 +41,11 @@ fn eight(table: &[[u32; 256]; 8], state: u32, bytes: u64) -> u32
 }
 
 // The register after one byte.
-fn one(table: &[[u32; 256]; 8], state: u32, byte: u8) -> u32
+fn update_byte(table: &[[u32; 256]; 8], state: u32, byte: u8) -> u32
     requires { ⌜ isTable (now table) ≡ true ⌝ }
     ensures { λ r. ⌜ r ≡ updateOf state (byte ∷ []) ⌝ }
 {
-    let x = (state as u64) ^ num::wide(byte);
+    let x = (state as u64) ^ num::widen(byte);
     let high = (x / 256 % 0x1_0000_0000) as u32;
     entry(table, 0, x % 256) ^ high
 }
@@ -58,13 +58,13 @@ fn update_rest(table: &[[u32; 256]; 8], state: u32, data: &[u8], at: usize) -> u
     let mut c = state;
     let mut i = at;
     while i < data.len() {
-        c = one(table, c, data[i]);
+        c = update_byte(table, c, data[i]);
         i += 1;
     }
     c
 }
 
-// The register after the bytes, by tables that the caller lends.
+// The register after the bytes, by `SLICES`, which the caller lends.
 pub fn update_with(table: &[[u32; 256]; 8], state: u32, data: &[u8]) -> u32
     requires { ⌜ isTable (now table) ≡ true ⌝ }
     ensures { λ r. ⌜ r ≡ updateOf state (now («data» .entry)) ⌝ }
@@ -72,13 +72,13 @@ pub fn update_with(table: &[[u32; 256]; 8], state: u32, data: &[u8]) -> u32
     let mut c = state;
     let mut i = 0;
     while 8 <= data.len() - i {
-        c = eight(table, c, num::u64_at(data, i));
+        c = update_word(table, c, num::u64_at(data, i));
         i += 8;
     }
     update_rest(table, c, data, i)
 }
 
-// The CRC-32 of the bytes, by tables that the caller lends: for many short inputs.
+// The CRC-32 of the bytes, by `SLICES`, which the caller lends: for many short inputs.
 pub fn crc32_with(table: &[[u32; 256]; 8], data: &[u8]) -> u32
     requires { ⌜ isTable (now table) ≡ true ⌝ }
     ensures { λ r. ⌜ r ≡ crcOf (now («data» .entry)) ⌝ }

@@ -49,11 +49,11 @@ group = 1024
 
 -- the least width of 1, 2, 4 and 8 bytes that holds every number up to max
 unfoldable pub widthOf : ℕ → ℕ
-widthOf max = if_then_else_ (leb max 255) 1 (if_then_else_ (leb max 65535) 2 (if_then_else_ (leb max 4294967295) 4 8))
+widthOf max = if leb max 255 then 1 else if leb max 65535 then 2 else if leb max 4294967295 then 4 else 8
 
 -- the width of value lengths up to max with a bit above them
 unfoldable pub valueWidthOf : ℕ → ℕ
-valueWidthOf max = if_then_else_ (ltb max 32768) 2 4
+valueWidthOf max = if ltb max 32768 then 2 else 4
 
 -- the widths that question 4 allows
 pub record Widths (e : Encoding) : Type 0 where
@@ -79,7 +79,7 @@ keyHeaderOf e = e .address + 2 * e .key + e .count
 
 -- the bytes of a version: sequence, value length, value offset, and the CRC-32 with checksums
 unfoldable pub versionOf : Encoding → ℕ
-versionOf e = e .seq + e .value + e .address + if_then_else_ (e .checksum) 4 0
+versionOf e = e .seq + e .value + e .address + (if e .checksum then 4 else 0)
 
 -- the bytes of all key records
 unfoldable pub arenaLenOf : Encoding → Totals → ℕ
@@ -95,7 +95,7 @@ arenaStartOf n address = headerLen + 4 * bucketsOf n + n * (address + 2)
 
 -- the bytes of the scan part and of its length (question 5), none without a prefix
 unfoldable pub scanLenOf : Encoding → Totals → ℕ → ℕ
-scanLenOf e t prefix = if_then_else_ (ltb 0 prefix) (scanHeaderLen + t .keys * e .address + 8) 0
+scanLenOf e t prefix = if ltb 0 prefix then scanHeaderLen + t .keys * e .address + 8 else 0
 
 -- the bytes of a whole section
 unfoldable pub sectionLenOf : Encoding → Totals → ℕ → ℕ
@@ -107,7 +107,7 @@ tombstoneOf e = 2 ^ (8 * e .value - 1)
 
 -- addresses and value offsets have 8 bytes if the arena with 4 or the last offset goes beyond 4
 unfoldable pub addressWidthOf : ℕ → ℕ → ℕ
-addressWidthOf arena last = if_then_else_ (either (ltb 4294967295 arena) (ltb 4294967295 last)) 8 4
+addressWidthOf arena last = if either (ltb 4294967295 arena) (ltb 4294967295 last) then 8 else 4
 
 -- the encoding of the totals with addresses of a width
 unfoldable pub encodingWith : ℕ → Totals → Encoding

@@ -12,7 +12,7 @@ use lib.ListN.{length, getD, take, drop, length-drop, take-append-drop, drop-of-
 use lib.Seq.{take-all, drop-cons, drop-drop, getD-take, getD-drop}
 use borrow.Author.Tests.{eqb-true, eqb-false, eq-eqb, ne-eqb, ltb-true, ltb-false, lt-ltb, le-ltb}
 use Rattle.num.specs.Choice.{if_then_else_, both}
-use Rattle.num.specs.Order.{lessThan, sharedLength, equalBytes}
+use Rattle.num.specs.Order.{lessThan, commonPrefixLen, equalBytes}
 use Rattle.num.proofs.Choice.{false-true, both-true, true-both}
 
 -- two numbers are equal, or the first is less, or the second is
@@ -107,12 +107,12 @@ lessThan-append [] a b = refl
 lessThan-append (x ∷ p) a b = less-same x x (p ++ a) (p ++ b) refl ∙ lessThan-append p a b
 
 module _ (x y : ℕ) (xs ys : List ℕ) where
-  shared-same : x ≡ y → sharedLength (x ∷ xs) (y ∷ ys) ≡ suc (sharedLength xs ys)
-  unfolding sharedLength if_then_else_
+  shared-same : x ≡ y → commonPrefixLen (x ∷ xs) (y ∷ ys) ≡ suc (commonPrefixLen xs ys)
+  unfolding commonPrefixLen if_then_else_
   shared-same e = rw (eq-eqb x y e)
 
-  shared-other : (x ≡ y → ⊥) → sharedLength (x ∷ xs) (y ∷ ys) ≡ 0
-  unfolding sharedLength if_then_else_
+  shared-other : (x ≡ y → ⊥) → commonPrefixLen (x ∷ xs) (y ∷ ys) ≡ 0
+  unfolding commonPrefixLen if_then_else_
   shared-other n = rw (ne-eqb x y n)
 
 -- two numbers are the same, or not
@@ -124,169 +124,169 @@ equal x y = go (eqb x y) refl
     go false p = inr (eqb-false x y p)
 
 -- both lists share the same
-pub sharedLength-comm : (a b : List ℕ) → sharedLength a b ≡ sharedLength b a
-unfolding sharedLength
-sharedLength-comm [] [] = refl
-sharedLength-comm [] (y ∷ ys) = refl
-sharedLength-comm (x ∷ xs) [] = refl
-sharedLength-comm (x ∷ xs) (y ∷ ys) = step (equal x y) (sharedLength-comm xs ys)
+pub commonPrefixLen-comm : (a b : List ℕ) → commonPrefixLen a b ≡ commonPrefixLen b a
+unfolding commonPrefixLen
+commonPrefixLen-comm [] [] = refl
+commonPrefixLen-comm [] (y ∷ ys) = refl
+commonPrefixLen-comm (x ∷ xs) [] = refl
+commonPrefixLen-comm (x ∷ xs) (y ∷ ys) = step (equal x y) (commonPrefixLen-comm xs ys)
   where
-    step : (x ≡ y) ⊎ (x ≡ y → ⊥) → sharedLength xs ys ≡ sharedLength ys xs → sharedLength (x ∷ xs) (y ∷ ys) ≡ sharedLength (y ∷ ys) (x ∷ xs)
+    step : (x ≡ y) ⊎ (x ≡ y → ⊥) → commonPrefixLen xs ys ≡ commonPrefixLen ys xs → commonPrefixLen (x ∷ xs) (y ∷ ys) ≡ commonPrefixLen (y ∷ ys) (x ∷ xs)
     step (inl e) ih = shared-same x y xs ys e ∙ ap suc ih ∙ sym (shared-same y x ys xs (sym e))
     step (inr n) ih = shared-other x y xs ys n ∙ sym (shared-other y x ys xs (λ e. n (sym e)))
 
 -- what is shared is no longer than the first list
-pub sharedLength-left : (a b : List ℕ) → sharedLength a b ≤ length a
-unfolding sharedLength
-sharedLength-left [] b = omega arith
-sharedLength-left (x ∷ xs) [] = omega arith
-sharedLength-left (x ∷ xs) (y ∷ ys) = step (equal x y) (sharedLength-left xs ys)
+pub commonPrefixLen-left : (a b : List ℕ) → commonPrefixLen a b ≤ length a
+unfolding commonPrefixLen
+commonPrefixLen-left [] b = omega arith
+commonPrefixLen-left (x ∷ xs) [] = omega arith
+commonPrefixLen-left (x ∷ xs) (y ∷ ys) = step (equal x y) (commonPrefixLen-left xs ys)
   where
-    step : (x ≡ y) ⊎ (x ≡ y → ⊥) → sharedLength xs ys ≤ length xs → sharedLength (x ∷ xs) (y ∷ ys) ≤ suc (length xs)
+    step : (x ≡ y) ⊎ (x ≡ y → ⊥) → commonPrefixLen xs ys ≤ length xs → commonPrefixLen (x ∷ xs) (y ∷ ys) ≤ suc (length xs)
     step (inl e) ih = omega (arith, shared-same x y xs ys e)
     step (inr n) ih = omega (arith, shared-other x y xs ys n)
 
 -- nor than the second
-pub sharedLength-right : (a b : List ℕ) → sharedLength a b ≤ length b
-sharedLength-right a b = omega (arith, sharedLength-comm a b, sharedLength-left b a)
+pub commonPrefixLen-right : (a b : List ℕ) → commonPrefixLen a b ≤ length b
+commonPrefixLen-right a b = omega (arith, commonPrefixLen-comm a b, commonPrefixLen-left b a)
 
 -- the shared parts are equal
-pub sharedLength-take : (a b : List ℕ) → take (sharedLength a b) a ≡ take (sharedLength a b) b
-unfolding sharedLength
-sharedLength-take [] [] = refl
-sharedLength-take [] (y ∷ ys) = refl
-sharedLength-take (x ∷ xs) [] = refl
-sharedLength-take (x ∷ xs) (y ∷ ys) = step (equal x y) (sharedLength-take xs ys)
+pub commonPrefixLen-take : (a b : List ℕ) → take (commonPrefixLen a b) a ≡ take (commonPrefixLen a b) b
+unfolding commonPrefixLen
+commonPrefixLen-take [] [] = refl
+commonPrefixLen-take [] (y ∷ ys) = refl
+commonPrefixLen-take (x ∷ xs) [] = refl
+commonPrefixLen-take (x ∷ xs) (y ∷ ys) = step (equal x y) (commonPrefixLen-take xs ys)
   where
-    step : (x ≡ y) ⊎ (x ≡ y → ⊥) → take (sharedLength xs ys) xs ≡ take (sharedLength xs ys) ys
-        → take (sharedLength (x ∷ xs) (y ∷ ys)) (x ∷ xs) ≡ take (sharedLength (x ∷ xs) (y ∷ ys)) (y ∷ ys)
+    step : (x ≡ y) ⊎ (x ≡ y → ⊥) → take (commonPrefixLen xs ys) xs ≡ take (commonPrefixLen xs ys) ys
+        → take (commonPrefixLen (x ∷ xs) (y ∷ ys)) (x ∷ xs) ≡ take (commonPrefixLen (x ∷ xs) (y ∷ ys)) (y ∷ ys)
     step (inl e) ih = rw (shared-same x y xs ys e) (ap₂ (λ (u : ℕ) (us : List ℕ). u ∷ us) e ih)
     step (inr n) ih = rw (shared-other x y xs ys n)
 
 -- elements that agree count into the shared length, and the rest is what the rests share
-pub sharedLength-past : (n : ℕ) (a b : List ℕ) → n ≤ length a → n ≤ length b → ((k : ℕ) → k < n → getD a k 0 ≡ getD b k 0)
-    → sharedLength a b ≡ n + sharedLength (drop n a) (drop n b)
-sharedLength-past zero a b p q h = sym (zero-add (sharedLength a b))
-sharedLength-past (suc n) [] b p q h = absurd (not-suc-le-zero p)
-sharedLength-past (suc n) (x ∷ xs) [] p q h = absurd (not-suc-le-zero q)
-sharedLength-past (suc n) (x ∷ xs) (y ∷ ys) p q h =
+pub commonPrefixLen-past : (n : ℕ) (a b : List ℕ) → n ≤ length a → n ≤ length b → ((k : ℕ) → k < n → getD a k 0 ≡ getD b k 0)
+    → commonPrefixLen a b ≡ n + commonPrefixLen (drop n a) (drop n b)
+commonPrefixLen-past zero a b p q h = sym (zero-add (commonPrefixLen a b))
+commonPrefixLen-past (suc n) [] b p q h = absurd (not-suc-le-zero p)
+commonPrefixLen-past (suc n) (x ∷ xs) [] p q h = absurd (not-suc-le-zero q)
+commonPrefixLen-past (suc n) (x ∷ xs) (y ∷ ys) p q h =
     shared-same x y xs ys (h 0 (omega arith))
-    ∙ ap suc (sharedLength-past n xs ys (omega arith) (omega arith) (λ k l. h (suc k) (omega arith)))
-    ∙ sym (suc-add n (sharedLength (drop n xs) (drop n ys)))
+    ∙ ap suc (commonPrefixLen-past n xs ys (omega arith) (omega arith) (λ k l. h (suc k) (omega arith)))
+    ∙ sym (suc-add n (commonPrefixLen (drop n xs) (drop n ys)))
 
 -- the same from a place on
-pub sharedLength-from : (a b : List ℕ) (i n : ℕ) → i + n ≤ length a → i + n ≤ length b → ((k : ℕ) → k < n → getD a (i + k) 0 ≡ getD b (i + k) 0)
-    → i + sharedLength (drop i a) (drop i b) ≡ i + n + sharedLength (drop (i + n) a) (drop (i + n) b)
-sharedLength-from a b i n p q h =
-    let e = sharedLength-past n (drop i a) (drop i b) (simp length-drop (omega arith)) (simp length-drop (omega arith))
+pub commonPrefixLen-from : (a b : List ℕ) (i n : ℕ) → i + n ≤ length a → i + n ≤ length b → ((k : ℕ) → k < n → getD a (i + k) 0 ≡ getD b (i + k) 0)
+    → i + commonPrefixLen (drop i a) (drop i b) ≡ i + n + commonPrefixLen (drop (i + n) a) (drop (i + n) b)
+commonPrefixLen-from a b i n p q h =
+    let e = commonPrefixLen-past n (drop i a) (drop i b) (simp length-drop (omega arith)) (simp length-drop (omega arith))
     (λ k l. getD-drop i a k 0 ∙ h k l ∙ sym (getD-drop i b k 0)) in
-    ap (λ (m : ℕ). i + m) (e ∙ ap₂ (λ (s t : List ℕ). n + sharedLength s t) (drop-drop n i a) (drop-drop n i b))
-    ∙ sym (add-assoc i n (sharedLength (drop (i + n) a) (drop (i + n) b)))
+    ap (λ (m : ℕ). i + m) (e ∙ ap₂ (λ (s t : List ℕ). n + commonPrefixLen s t) (drop-drop n i a) (drop-drop n i b))
+    ∙ sym (add-assoc i n (commonPrefixLen (drop (i + n) a) (drop (i + n) b)))
 
 -- and for one element
-pub sharedLength-agree : (a b : List ℕ) (i : ℕ) → i < length a → i < length b → getD a i 0 ≡ getD b i 0
-    → i + sharedLength (drop i a) (drop i b) ≡ i + 1 + sharedLength (drop (i + 1) a) (drop (i + 1) b)
-sharedLength-agree a b i p q e =
-    sharedLength-from a b i 1 (omega arith) (omega arith) (λ k l. let z : i + k ≡ i = omega arith in rw (z, e))
+pub commonPrefixLen-agree : (a b : List ℕ) (i : ℕ) → i < length a → i < length b → getD a i 0 ≡ getD b i 0
+    → i + commonPrefixLen (drop i a) (drop i b) ≡ i + 1 + commonPrefixLen (drop (i + 1) a) (drop (i + 1) b)
+commonPrefixLen-agree a b i p q e =
+    commonPrefixLen-from a b i 1 (omega arith) (omega arith) (λ k l. let z : i + k ≡ i = omega arith in rw (z, e))
 
 -- a common beginning is not longer than what is shared
-pub sharedLength-greatest : (n : ℕ) (a b : List ℕ) → n ≤ length a → n ≤ length b → take n a ≡ take n b → n ≤ sharedLength a b
-sharedLength-greatest n a b p q e =
-    omega (arith, sharedLength-past n a b p q (λ k l. sym (getD-take n a k 0 l) ∙ ap (λ (s : List ℕ). getD s k 0) e ∙ getD-take n b k 0 l))
+pub commonPrefixLen-greatest : (n : ℕ) (a b : List ℕ) → n ≤ length a → n ≤ length b → take n a ≡ take n b → n ≤ commonPrefixLen a b
+commonPrefixLen-greatest n a b p q e =
+    omega (arith, commonPrefixLen-past n a b p q (λ k l. sym (getD-take n a k 0 l) ∙ ap (λ (s : List ℕ). getD s k 0) e ∙ getD-take n b k 0 l))
 
 -- nothing is shared behind the end of the shorter list
-pub sharedLength-end : (a b : List ℕ) (i : ℕ) → min (length a) (length b) ≤ i → i + sharedLength (drop i a) (drop i b) ≡ i
-sharedLength-end a b i h =
-    let l = sharedLength-left (drop i a) (drop i b) in
-    let r = sharedLength-right (drop i a) (drop i b) in
+pub commonPrefixLen-end : (a b : List ℕ) (i : ℕ) → min (length a) (length b) ≤ i → i + commonPrefixLen (drop i a) (drop i b) ≡ i
+commonPrefixLen-end a b i h =
+    let l = commonPrefixLen-left (drop i a) (drop i b) in
+    let r = commonPrefixLen-right (drop i a) (drop i b) in
     omega (arith, length-drop i a, length-drop i b)
 
 -- nor where the elements differ
-pub sharedLength-differ : (a b : List ℕ) (i : ℕ) → i < length a → i < length b → (getD a i 0 ≡ getD b i 0 → ⊥) → i + sharedLength (drop i a) (drop i b) ≡ i
-sharedLength-differ a b i p q n =
-    ap₂ (λ (s t : List ℕ). i + sharedLength s t) (drop-cons a i 0 p) (drop-cons b i 0 q)
+pub commonPrefixLen-differ : (a b : List ℕ) (i : ℕ) → i < length a → i < length b → (getD a i 0 ≡ getD b i 0 → ⊥) → i + commonPrefixLen (drop i a) (drop i b) ≡ i
+commonPrefixLen-differ a b i p q n =
+    ap₂ (λ (s t : List ℕ). i + commonPrefixLen s t) (drop-cons a i 0 p) (drop-cons b i 0 q)
     ∙ ap (λ (m : ℕ). i + m) (shared-other _ _ _ _ n)
     ∙ add-zero i
 
 -- the elements behind the shared part differ
-pub sharedLength-stops : (a b : List ℕ) → sharedLength a b < length a → sharedLength a b < length b
-    → getD a (sharedLength a b) 0 ≡ getD b (sharedLength a b) 0 → ⊥
-unfolding sharedLength
-sharedLength-stops [] b p q e = absurd (not-suc-le-zero p)
-sharedLength-stops (x ∷ xs) [] p q e = absurd (not-suc-le-zero q)
-sharedLength-stops (x ∷ xs) (y ∷ ys) p q e = step (equal x y) (sharedLength-stops xs ys)
+pub commonPrefixLen-stops : (a b : List ℕ) → commonPrefixLen a b < length a → commonPrefixLen a b < length b
+    → getD a (commonPrefixLen a b) 0 ≡ getD b (commonPrefixLen a b) 0 → ⊥
+unfolding commonPrefixLen
+commonPrefixLen-stops [] b p q e = absurd (not-suc-le-zero p)
+commonPrefixLen-stops (x ∷ xs) [] p q e = absurd (not-suc-le-zero q)
+commonPrefixLen-stops (x ∷ xs) (y ∷ ys) p q e = step (equal x y) (commonPrefixLen-stops xs ys)
   where
     step : (x ≡ y) ⊎ (x ≡ y → ⊥)
-        → (sharedLength xs ys < length xs → sharedLength xs ys < length ys → getD xs (sharedLength xs ys) 0 ≡ getD ys (sharedLength xs ys) 0 → ⊥) → ⊥
+        → (commonPrefixLen xs ys < length xs → commonPrefixLen xs ys < length ys → getD xs (commonPrefixLen xs ys) 0 ≡ getD ys (commonPrefixLen xs ys) 0 → ⊥) → ⊥
     step (inl d) ih = let n = shared-same x y xs ys d in ih (omega arith) (omega arith) (rw n at e)
     step (inr d) ih = let n = shared-other x y xs ys d in d (rw n at e)
 
 -- a list shares all with itself
-pub sharedLength-same : (a : List ℕ) → sharedLength a a ≡ length a
-unfolding sharedLength
-sharedLength-same [] = refl
-sharedLength-same (x ∷ xs) = shared-same x x xs xs refl ∙ ap suc (sharedLength-same xs)
+pub commonPrefixLen-same : (a : List ℕ) → commonPrefixLen a a ≡ length a
+unfolding commonPrefixLen
+commonPrefixLen-same [] = refl
+commonPrefixLen-same (x ∷ xs) = shared-same x x xs xs refl ∙ ap suc (commonPrefixLen-same xs)
 
 -- lists of one length that share it are the same
-pub sharedLength-whole : (a b : List ℕ) → sharedLength a b ≡ length a → length a ≡ length b → a ≡ b
-sharedLength-whole a b e l =
-    sym (take-all (sharedLength a b) a (omega arith)) ∙ sharedLength-take a b ∙ take-all (sharedLength a b) b (omega arith)
+pub commonPrefixLen-whole : (a b : List ℕ) → commonPrefixLen a b ≡ length a → length a ≡ length b → a ≡ b
+commonPrefixLen-whole a b e l =
+    sym (take-all (commonPrefixLen a b) a (omega arith)) ∙ commonPrefixLen-take a b ∙ take-all (commonPrefixLen a b) b (omega arith)
 
 -- a beginning before both lists is shared
-pub sharedLength-append : (p a b : List ℕ) → sharedLength (p ++ a) (p ++ b) ≡ length p + sharedLength a b
-sharedLength-append [] a b = sym (zero-add (sharedLength a b))
-sharedLength-append (x ∷ p) a b =
-    shared-same x x (p ++ a) (p ++ b) refl ∙ ap suc (sharedLength-append p a b) ∙ sym (suc-add (length p) (sharedLength a b))
+pub commonPrefixLen-append : (p a b : List ℕ) → commonPrefixLen (p ++ a) (p ++ b) ≡ length p + commonPrefixLen a b
+commonPrefixLen-append [] a b = sym (zero-add (commonPrefixLen a b))
+commonPrefixLen-append (x ∷ p) a b =
+    shared-same x x (p ++ a) (p ++ b) refl ∙ ap suc (commonPrefixLen-append p a b) ∙ sym (suc-add (length p) (commonPrefixLen a b))
 
 -- the order is that of what stands behind the shared part
-pub lessThan-behind : (a b : List ℕ) → lessThan a b ≡ lessThan (drop (sharedLength a b) a) (drop (sharedLength a b) b)
+pub lessThan-behind : (a b : List ℕ) → lessThan a b ≡ lessThan (drop (commonPrefixLen a b) a) (drop (commonPrefixLen a b) b)
 lessThan-behind a b =
-    let n = sharedLength a b in
-    sym (ap₂ lessThan (take-append-drop n a) (ap (λ (s : List ℕ). s ++ drop n b) (sharedLength-take a b) ∙ take-append-drop n b))
+    let n = commonPrefixLen a b in
+    sym (ap₂ lessThan (take-append-drop n a) (ap (λ (s : List ℕ). s ++ drop n b) (commonPrefixLen-take a b) ∙ take-append-drop n b))
     ∙ lessThan-append (take n a) (drop n a) (drop n b)
 
 -- the second list is a beginning of the first
-pub lessThan-right-end : (a b : List ℕ) → sharedLength a b ≡ length b → lessThan a b ≡ false
+pub lessThan-right-end : (a b : List ℕ) → commonPrefixLen a b ≡ length b → lessThan a b ≡ false
 unfolding lessThan
 lessThan-right-end a b e =
-    lessThan-behind a b ∙ ap (lessThan (drop (sharedLength a b) a)) (drop-of-length-le b {i = sharedLength a b} (omega arith))
+    lessThan-behind a b ∙ ap (lessThan (drop (commonPrefixLen a b) a)) (drop-of-length-le b {i = commonPrefixLen a b} (omega arith))
 
 -- the first list is a beginning of the second
-pub lessThan-left-end : (a b : List ℕ) → sharedLength a b ≡ length a → length a < length b → lessThan a b ≡ true
+pub lessThan-left-end : (a b : List ℕ) → commonPrefixLen a b ≡ length a → length a < length b → lessThan a b ≡ true
 unfolding lessThan
 lessThan-left-end a b e h =
     lessThan-behind a b
-    ∙ ap₂ lessThan (drop-of-length-le a {i = sharedLength a b} (omega arith)) (drop-cons b (sharedLength a b) 0 (omega arith))
+    ∙ ap₂ lessThan (drop-of-length-le a {i = commonPrefixLen a b} (omega arith)) (drop-cons b (commonPrefixLen a b) 0 (omega arith))
 
 -- both go on behind the shared part
-pub lessThan-at : (a b : List ℕ) → sharedLength a b < length a → sharedLength a b < length b
-    → lessThan a b ≡ ltb (getD a (sharedLength a b) 0) (getD b (sharedLength a b) 0)
+pub lessThan-at : (a b : List ℕ) → commonPrefixLen a b < length a → commonPrefixLen a b < length b
+    → lessThan a b ≡ ltb (getD a (commonPrefixLen a b) 0) (getD b (commonPrefixLen a b) 0)
 unfolding lessThan if_then_else_
 lessThan-at a b p q =
     lessThan-behind a b
-    ∙ ap₂ lessThan (drop-cons a (sharedLength a b) 0 p) (drop-cons b (sharedLength a b) 0 q)
-    ∙ rw (ne-eqb _ _ (sharedLength-stops a b p q))
+    ∙ ap₂ lessThan (drop-cons a (commonPrefixLen a b) 0 p) (drop-cons b (commonPrefixLen a b) 0 q)
+    ∙ rw (ne-eqb _ _ (commonPrefixLen-stops a b p q))
 
 -- what comes first ends with the shared part, or has the lesser element behind it
 pub lessThan-shared : (a b : List ℕ) → lessThan a b ≡ true
-    → ((sharedLength a b ≡ length a) × (length a < length b))
-    ⊎ ((sharedLength a b < length a) × (sharedLength a b < length b) × (getD a (sharedLength a b) 0 < getD b (sharedLength a b) 0))
-lessThan-shared a b t = go (equal (sharedLength a b) (length b)) (equal (sharedLength a b) (length a))
+    → ((commonPrefixLen a b ≡ length a) × (length a < length b))
+    ⊎ ((commonPrefixLen a b < length a) × (commonPrefixLen a b < length b) × (getD a (commonPrefixLen a b) 0 < getD b (commonPrefixLen a b) 0))
+lessThan-shared a b t = go (equal (commonPrefixLen a b) (length b)) (equal (commonPrefixLen a b) (length a))
   where
-    go : (sharedLength a b ≡ length b) ⊎ (sharedLength a b ≡ length b → ⊥) → (sharedLength a b ≡ length a) ⊎ (sharedLength a b ≡ length a → ⊥)
-        → ((sharedLength a b ≡ length a) × (length a < length b))
-        ⊎ ((sharedLength a b < length a) × (sharedLength a b < length b) × (getD a (sharedLength a b) 0 < getD b (sharedLength a b) 0))
+    go : (commonPrefixLen a b ≡ length b) ⊎ (commonPrefixLen a b ≡ length b → ⊥) → (commonPrefixLen a b ≡ length a) ⊎ (commonPrefixLen a b ≡ length a → ⊥)
+        → ((commonPrefixLen a b ≡ length a) × (length a < length b))
+        ⊎ ((commonPrefixLen a b < length a) × (commonPrefixLen a b < length b) × (getD a (commonPrefixLen a b) 0 < getD b (commonPrefixLen a b) 0))
     go (inl e) d = false-true (sym (lessThan-right-end a b e) ∙ t)
-    go (inr n) (inl e) = let r = sharedLength-right a b in inl (e, omega arith)
+    go (inr n) (inl e) = let r = commonPrefixLen-right a b in inl (e, omega arith)
     go (inr n) (inr m) =
-        let p : sharedLength a b < length a = omega (arith, sharedLength-left a b) in
-        let q : sharedLength a b < length b = omega (arith, sharedLength-right a b) in
+        let p : commonPrefixLen a b < length a = omega (arith, commonPrefixLen-left a b) in
+        let q : commonPrefixLen a b < length b = omega (arith, commonPrefixLen-right a b) in
         inr (p, q, ltb-true _ _ (sym (lessThan-at a b p q) ∙ t))
 
 -- and lists of which either holds are in order
 pub shared-lessThan : (a b : List ℕ)
-    → ((sharedLength a b ≡ length a) × (length a < length b))
-    ⊎ ((sharedLength a b < length a) × (sharedLength a b < length b) × (getD a (sharedLength a b) 0 < getD b (sharedLength a b) 0))
+    → ((commonPrefixLen a b ≡ length a) × (length a < length b))
+    ⊎ ((commonPrefixLen a b < length a) × (commonPrefixLen a b < length b) × (getD a (commonPrefixLen a b) 0 < getD b (commonPrefixLen a b) 0))
     → lessThan a b ≡ true
 shared-lessThan a b (inl h) = lessThan-left-end a b (h .0) (h .1)
 shared-lessThan a b (inr h) = lessThan-at a b (h .0) (h .1) ∙ lt-ltb _ _ (h .2)
@@ -323,10 +323,10 @@ equalBytes-other a b n = go (equalBytes a b) refl
     go false e = refl
 
 -- lists of one length are the same if they share all of it
-pub equalBytes-shared : (a b : List ℕ) → length a ≡ length b → equalBytes a b ≡ eqb (sharedLength a b) (length a)
-equalBytes-shared a b l = go (equal (sharedLength a b) (length a))
+pub equalBytes-shared : (a b : List ℕ) → length a ≡ length b → equalBytes a b ≡ eqb (commonPrefixLen a b) (length a)
+equalBytes-shared a b l = go (equal (commonPrefixLen a b) (length a))
   where
-    go : (sharedLength a b ≡ length a) ⊎ (sharedLength a b ≡ length a → ⊥) → equalBytes a b ≡ eqb (sharedLength a b) (length a)
-    go (inl e) = equalBytes-same a b (sharedLength-whole a b e l) ∙ sym (eq-eqb _ _ e)
+    go : (commonPrefixLen a b ≡ length a) ⊎ (commonPrefixLen a b ≡ length a → ⊥) → equalBytes a b ≡ eqb (commonPrefixLen a b) (length a)
+    go (inl e) = equalBytes-same a b (commonPrefixLen-whole a b e l) ∙ sym (eq-eqb _ _ e)
     go (inr n) =
-        equalBytes-other a b (λ e. n (ap (sharedLength a) (sym e) ∙ sharedLength-same a)) ∙ sym (ne-eqb _ _ n)
+        equalBytes-other a b (λ e. n (ap (commonPrefixLen a) (sym e) ∙ commonPrefixLen-same a)) ∙ sym (ne-eqb _ _ n)

@@ -4,6 +4,7 @@ use mathlib.Core.Bool.{Bool, true, false}
 use mathlib.Core.List.{List, [], _∷_}
 use lib.Dec.{eqb}
 
+infix 5 if_then_else_
 unfoldable pub if_then_else_ : {A : Type 0} → Bool → A → A → A
 if_then_else_ true a b = a
 if_then_else_ false a b = b

@@ -19,6 +19,6 @@ unfoldable pub leBytes : ℕ → ℕ → List ℕ
 leBytes zero v = []
 leBytes (suc w) v = (v % 256) ∷ leBytes w (v / 256)
 
--- the widths at which `uint` answers
+-- the widths of stored numbers
 unfoldable pub isWidth : ℕ → Bool
 isWidth w = oneOf (1 ∷ 2 ∷ 4 ∷ 8 ∷ []) w

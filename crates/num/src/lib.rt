@@ -27,7 +27,7 @@ pub fn rotate_left(x: u64, k: u32) -> u64
 }
 
 // A byte as a number, with its bound at hand.
-pub fn wide(x: u8) -> u64
+pub fn widen(x: u8) -> u64
     ensures { λ r. ⌜ (r ≡ x) × (r < 256) ⌝ }
 {
     x as u64
@@ -37,8 +37,8 @@ pub fn u16_at(raw: &[u8], at: usize) -> u64
     requires { ⌜ at + 2 ≤ length (now raw) ⌝ }
     ensures { λ r. ⌜ (r ≡ leAt (now (raw .entry)) at 2) × (r < 65536) ⌝ }
 {
-    let low = wide(raw[at]);
-    let high = wide(raw[at + 1]);
+    let low = widen(raw[at]);
+    let high = widen(raw[at + 1]);
     low + 256 * high
 }
 
@@ -66,7 +66,7 @@ pub fn uint(raw: &[u8], at: usize, width: usize) -> u64
     ensures { λ r. ⌜ r ≡ leAt (now (raw .entry)) at width ⌝ }
 {
     if width == 1 {
-        return wide(raw[at]);
+        return widen(raw[at]);
     }
     if width == 2 {
         return u16_at(raw, at);

@@ -10,10 +10,10 @@ use lib.Pow.{pow-pos, shr-le, shr-lt}
 use lib.ListN.{length}
 use Rattle.num.specs.Number.{leAt}
 use Rattle.num.specs.Wrapping.{mulMod}
-use Rattle.point.specs.Hash.{xorShift, mixOf, absorbOf, chunksOf, tailOf, hashOf, fingerprintOf}
+use Rattle.point.specs.Hash.{xorShift, mixOf, hashChunk, chunksOf, tailOf, hashOf, fingerprintOf}
 
 -- a turn of the loop: what is left from the next chunk on is what was left before
-pub chunks-more : (key : List ℕ) (n at h : ℕ) → 8 ≤ n - at → chunksOf ((n - (at + 8)) / 8) key (at + 8) (absorbOf h (leAt key at 8)) ≡ chunksOf ((n - at) / 8) key at h
+pub chunks-more : (key : List ℕ) (n at h : ℕ) → 8 ≤ n - at → chunksOf ((n - (at + 8)) / 8) key (at + 8) (hashChunk h (leAt key at 8)) ≡ chunksOf ((n - at) / 8) key at h
 unfolding chunksOf
 chunks-more key n at h p =
     let e : (n - at) / 8 ≡ suc ((n - (at + 8)) / 8) = omega arith in

@@ -9,7 +9,7 @@ use Rattle.num.specs.Choice.{if_then_else_}
 use Rattle.num.specs.Number.{leAt}
 use Rattle.num.specs.Wrapping.{mulMod, rotl}
 
--- STEP
+-- `STEP` of point.rs
 abbrev pub step : ℕ
 step = 0x9e3779b97f4a7c15
 
@@ -20,15 +20,15 @@ unfoldable pub mixOf : ℕ → ℕ
 mixOf h = xorShift (mulMod (xorShift (mulMod (xorShift h 30) 0xbf58476d1ce4e5b9) 27) 0x94d049bb133111eb) 31
 
 -- the hash after one more chunk
-unfoldable pub absorbOf : ℕ → ℕ → ℕ
-absorbOf h chunk = mulMod (rotl (bitXor h chunk) 27) step
+unfoldable pub hashChunk : ℕ → ℕ → ℕ
+hashChunk h chunk = mulMod (rotl (bitXor h chunk) 27) step
 
 -- the hash after `count` more chunks of eight bytes, the first of them at `at`
 unfoldable pub chunksOf : ℕ → List ℕ → ℕ → ℕ → ℕ
 chunksOf zero key at h = h
-chunksOf (suc count) key at h = chunksOf count key (at + 8) (absorbOf h (leAt key at 8))
+chunksOf (suc count) key at h = chunksOf count key (at + 8) (hashChunk h (leAt key at 8))
 
--- the bytes behind the last whole chunk, as a chunk filled up with zeros
+-- the bytes after the last whole chunk, as a chunk filled up with zeros
 unfoldable pub tailOf : List ℕ → ℕ
 tailOf key = leAt key (8 * (length key / 8)) (length key % 8)
 
@@ -38,9 +38,11 @@ hashOf key seed = mixOf (bitXor (chunksOf (length key / 8) key 0 (mixOf (bitXor 
 unfoldable pub fingerprintOf : ℕ → ℕ
 fingerprintOf h = mixOf (bitXor h 0xd6e8feb86659fd93) / 2 ^ 48
 
+-- for a count of at least 1
 unfoldable pub bucketOf : ℕ → ℕ → ℕ
 bucketOf h count = h % count
 
+-- for n of at least 1
 unfoldable pub positionOf : ℕ → ℕ → ℕ → ℕ
 positionOf h pilot n = mixOf (bitXor h (mulMod pilot step)) % n
 
@@ -52,11 +54,11 @@ isDirect pilot = leb (2 ^ 31) pilot
 unfoldable pub directSlot : ℕ → ℕ
 directSlot pilot = pilot % 2 ^ 31
 
--- a pilot with bit 31 names its slot, another gives a position
+-- `index` of point.rs for the pilot of the bucket: a pilot with bit 31 names its slot, another gives a position
 unfoldable pub slotOf : ℕ → ℕ → ℕ → ℕ
-slotOf h pilot n = if_then_else_ (isDirect pilot) (directSlot pilot) (positionOf h pilot n)
+slotOf h pilot n = if isDirect pilot then directSlot pilot else positionOf h pilot n
 
 -- names all definitions of this file: `unfolding hash-defs` opens them
 unfoldable pub hash-defs : ℕ
-unfolding xorShift mixOf absorbOf chunksOf tailOf hashOf fingerprintOf bucketOf positionOf isDirect directSlot slotOf
+unfolding xorShift mixOf hashChunk chunksOf tailOf hashOf fingerprintOf bucketOf positionOf isDirect directSlot slotOf
 hash-defs = 0

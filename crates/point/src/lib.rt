@@ -3,7 +3,7 @@ ghost use mathlib.Core.Path.{_≡_};
 ghost use Prim.Native.Nat.{_+_, _≤_, _<_};
 ghost use lib.ListN.{length};
 ghost use Rattle.num.specs.Number.{leAt};
-ghost use Rattle.point.specs.Hash.{mixOf, absorbOf, hashOf, fingerprintOf, bucketOf, positionOf, slotOf};
+ghost use Rattle.point.specs.Hash.{mixOf, hashChunk, hashOf, fingerprintOf, bucketOf, positionOf, slotOf};
 
 // Bit 31. A pilot, of 32 bits, has it exactly if it is at least this number, and then names its slot.
 pub const DIRECT: u32 = 1 << 31;
@@ -19,14 +19,14 @@ pub fn mix(h: u64) -> u64
 }
 
 // The hash after one more chunk.
-fn absorb(h: u64, chunk: u64) -> u64
-    ensures { λ r. ⌜ r ≡ absorbOf h chunk ⌝ }
+fn hash_chunk(h: u64, chunk: u64) -> u64
+    ensures { λ r. ⌜ r ≡ hashChunk h chunk ⌝ }
 {
     num::wrapping_mul(num::rotate_left(h ^ chunk, 27), STEP)
 }
 
 // The number in at most three bytes at `at`.
-fn short(key: &[u8], at: usize, rest: usize) -> u64
+fn up_to_three(key: &[u8], at: usize, rest: usize) -> u64
     requires { ⌜ (at + rest ≤ length (now key)) × (rest < 4) ⌝ }
     ensures { λ r. ⌜ (r ≡ leAt (now (key .entry)) at rest) × (r < 0x1000000) ⌝ }
 {
@@ -34,13 +34,13 @@ fn short(key: &[u8], at: usize, rest: usize) -> u64
         return 0;
     }
     if rest == 1 {
-        return num::wide(key[at]);
+        return num::widen(key[at]);
     }
     let low = num::u16_at(key, at);
     if rest == 2 {
         return low;
     }
-    low + 0x1_0000 * num::wide(key[at + 2])
+    low + 0x1_0000 * num::widen(key[at + 2])
 }
 
 // The number in at most seven bytes at `at`.
@@ -49,10 +49,10 @@ fn tail(key: &[u8], at: usize, rest: usize) -> u64
     ensures { λ r. ⌜ r ≡ leAt (now (key .entry)) at rest ⌝ }
 {
     if rest < 4 {
-        return short(key, at, rest);
+        return up_to_three(key, at, rest);
     }
     let low = num::u32_at(key, at) as u64;
-    let high = short(key, at + 4, rest - 4);
+    let high = up_to_three(key, at + 4, rest - 4);
     low + 0x1_0000_0000 * high
 }
 
@@ -63,7 +63,7 @@ pub fn hash(key: &[u8], seed: u64) -> u64
     let mut h = mix(seed ^ (n as u64));
     let mut at = 0;
     while 8 <= n - at {
-        h = absorb(h, num::u64_at(key, at));
+        h = hash_chunk(h, num::u64_at(key, at));
         at += 8;
     }
     mix(h ^ tail(key, at, n - at))

@@ -12,4 +12,4 @@ kindNumber Put = 1
 kindNumber Tombstone = 2
 
 unfoldable pub kindOf : ℕ → KindRead
-kindOf n = if_then_else_ (eqb n 1) (Known Put) (if_then_else_ (eqb n 2) (Known Tombstone) Unknown)
+kindOf n = if eqb n 1 then Known Put else if eqb n 2 then Known Tombstone else Unknown

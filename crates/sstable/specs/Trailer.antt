@@ -21,7 +21,7 @@ sealed s = eqb (leAt s (length s - 4) 4) (crcOf (take (length s - 4) s))
 
 -- the first question that is answered by no
 unfoldable pub trailerOf : List ℕ → Trailer
-trailerOf s = if_then_else_ (plainType s) (if_then_else_ (sealed s) Sound ChecksumMismatch) UnknownType
+trailerOf s = if plainType s then (if sealed s then Sound else ChecksumMismatch) else UnknownType
 
 -- questions 1 and 2 in plain terms
 pub record SoundTrailer (s : List ℕ) : Type 0 where

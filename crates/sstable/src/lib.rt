@@ -3,7 +3,7 @@ ghost use mathlib.Core.Path.{_≡_};
 ghost use mathlib.Core.Bool.{true};
 ghost use Prim.Native.Nat.{_+_, _≤_, min};
 ghost use lib.ListN.{length, drop};
-ghost use Rattle.num.specs.Order.{lessThan, sharedLength, equalBytes};
+ghost use Rattle.num.specs.Order.{lessThan, commonPrefixLen, equalBytes};
 ghost use Rattle.crc32.specs.Table.{isTable};
 ghost use Rattle.sstable.specs.Kind.{kindNumber, kindOf};
 ghost use Rattle.sstable.specs.Limits.{withinLimits};
@@ -66,7 +66,7 @@ fn shorter(a: &[u8], b: &[u8]) -> usize
 // A place to which two keys agree, such that less than eight bytes are left or the next eight differ.
 fn shared_words(a: &[u8], b: &[u8], end: usize) -> usize
     requires { ⌜ end ≡ min (length (now a)) (length (now b)) ⌝ }
-    ensures { λ r. ⌜ (r ≤ end) × (r + sharedLength (drop r (now (a .entry))) (drop r (now (b .entry))) ≡ sharedLength (now (a .entry)) (now (b .entry))) ⌝ }
+    ensures { λ r. ⌜ (r ≤ end) × (r + commonPrefixLen (drop r (now (a .entry))) (drop r (now (b .entry))) ≡ commonPrefixLen (now (a .entry)) (now (b .entry))) ⌝ }
 {
     let mut i = 0;
     while 8 <= end - i {
@@ -81,7 +81,7 @@ fn shared_words(a: &[u8], b: &[u8], end: usize) -> usize
 // The end of what two keys share, from a place to which they agree.
 fn shared_bytes(a: &[u8], b: &[u8], from: usize, end: usize) -> usize
     requires { ⌜ (from ≤ end) × (end ≡ min (length (now a)) (length (now b))) ⌝ }
-    ensures { λ r. ⌜ r ≡ from + sharedLength (drop from (now (a .entry))) (drop from (now (b .entry))) ⌝ }
+    ensures { λ r. ⌜ r ≡ from + commonPrefixLen (drop from (now (a .entry))) (drop from (now (b .entry))) ⌝ }
 {
     let mut i = from;
     while i < end {
@@ -95,7 +95,7 @@ fn shared_bytes(a: &[u8], b: &[u8], from: usize, end: usize) -> usize
 
 // How many leading bytes two keys share: eight at a time while both have eight more.
 pub fn common_prefix_len(a: &[u8], b: &[u8]) -> usize
-    ensures { λ r. ⌜ r ≡ sharedLength (now (a .entry)) (now (b .entry)) ⌝ }
+    ensures { λ r. ⌜ r ≡ commonPrefixLen (now (a .entry)) (now (b .entry)) ⌝ }
 {
     let end = shorter(a, b);
     let from = shared_words(a, b, end);

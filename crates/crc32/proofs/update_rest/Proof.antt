@@ -9,7 +9,7 @@ use Rattle.crc32.proofs.update_rest.Statement.{statement}
 use Rattle.crc32.proofs.update_rest.Tie as tie
 use Rattle.crc32.proofs.update_rest.Reads as reads
 use Rattle.crc32.proofs.update_rest.Lts as lts
-use Rattle.crc32.proofs.one.Reads as one-reads
+use Rattle.crc32.proofs.update_byte.Reads as update-byte-reads
 
 abbrev Inv-loop : tie.InvT-loop
 Inv-loop table state «data» at c₀ i₀ c i = (c < 2 ^ 32) × (updateOf c (drop i «data») ≡ updateOf state (drop at «data»))
@@ -22,12 +22,12 @@ loop-holds : tie.Need-loop-holds Inv-loop μ-loop
 loop-holds c = (c .before .fits .state .fits, refl)
 
 -- src/lib.rt:61:27
-shared-slice-read-one : tie.Need-shared-slice-read-one Inv-loop μ-loop
-shared-slice-read-one c = search needs
+shared-slice-read-update-byte : tie.Need-shared-slice-read-update-byte Inv-loop μ-loop
+shared-slice-read-update-byte c = search needs
 
 -- src/lib.rt:61:9
-one-requires : tie.Need-one-requires Inv-loop μ-loop
-one-requires c κs = search needs
+update-byte-requires : tie.Need-update-byte-requires Inv-loop μ-loop
+update-byte-requires c κs = search needs
 
 -- src/lib.rt:62:9
 add-i : tie.Need-add-i Inv-loop μ-loop
@@ -44,7 +44,7 @@ loop-again c =
     let s = l .before .before .args .«data» .now in
     let i = l .loop .i in (
       omega arith,
-      ap (λ (r : ℕ). updateOf r (drop (i + 1) s)) (c .one .ensures)
+      ap (λ (r : ℕ). updateOf r (drop (i + 1) s)) (c .update-byte .ensures)
           ∙ byte-step s i (l .loop .c) (λ k. l .before .shared-slice-known .given k .fits) (l .loop .inv .0) (c .before .before .loop-test .taken)
           ∙ l .loop .inv .1,
     )
@@ -62,8 +62,8 @@ update-rest-spec =
     Inv-loop
     μ-loop
     loop-holds
-    shared-slice-read-one
-    one-requires
+    shared-slice-read-update-byte
+    update-byte-requires
     add-i
     loop-less
     loop-again

@@ -10,7 +10,7 @@ use Rattle.crc32.proofs.update_with.Statement.{statement}
 use Rattle.crc32.proofs.update_with.Tie as tie
 use Rattle.crc32.proofs.update_with.Reads as reads
 use Rattle.crc32.proofs.update_with.Lts as lts
-use Rattle.crc32.proofs.eight.Reads as eight-reads
+use Rattle.crc32.proofs.update_word.Reads as update-word-reads
 use Rattle.crc32.proofs.update_rest.Reads as update-rest-reads
 use Rattle.num.proofs.u64_at.Reads as u64-at-reads
 
@@ -33,8 +33,8 @@ u64-at-requires : tie.Need-u64-at-requires Inv-loop μ-loop
 u64-at-requires c κs = search needs
 
 -- src/lib.rt:75:9
-eight-requires : tie.Need-eight-requires Inv-loop μ-loop
-eight-requires c κs = search needs
+update-word-requires : tie.Need-update-word-requires Inv-loop μ-loop
+update-word-requires c κs = search needs
 
 -- src/lib.rt:76:9
 add-i : tie.Need-add-i Inv-loop μ-loop
@@ -52,7 +52,7 @@ loop-again c =
     let i = l .loop .i in (
       omega arith,
       omega arith,
-      ap (λ (r : ℕ). updateOf r (drop (i + 8) s)) (c .eight .ensures ∙ ap (λ (v : ℕ). updateOf (l .loop .c) (leBytes 8 v)) (c .before .u64-at .ensures))
+      ap (λ (r : ℕ). updateOf r (drop (i + 8) s)) (c .update-word .ensures ∙ ap (λ (v : ℕ). updateOf (l .loop .c) (leBytes 8 v)) (c .before .u64-at .ensures))
           ∙ word-step s i (l .loop .c) (λ k. l .before .shared-slice-known .given k .fits) (l .loop .inv .1) (omega arith)
           ∙ l .loop .inv .2,
     )
@@ -74,7 +74,7 @@ update-with-spec =
     loop-holds
     sub-loop
     u64-at-requires
-    eight-requires
+    update-word-requires
     add-i
     loop-less
     loop-again

@@ -6,27 +6,27 @@ use Rattle.num.proofs.u16_at.Statement.{statement}
 use Rattle.num.proofs.u16_at.Tie as tie
 use Rattle.num.proofs.u16_at.Reads as reads
 use Rattle.num.proofs.u16_at.Lts as lts
-use Rattle.num.proofs.wide.Reads as wide-reads
+use Rattle.num.proofs.widen.Reads as widen-reads
 
 -- src/lib.rt:40:20
-shared-slice-read-wide : tie.Need-shared-slice-read-wide
-shared-slice-read-wide c = search needs
+shared-slice-read-widen : tie.Need-shared-slice-read-widen
+shared-slice-read-widen c = search needs
 
 -- src/lib.rt:40:9
-wide-requires : tie.Need-wide-requires
-wide-requires c κs = search needs
+widen-requires : tie.Need-widen-requires
+widen-requires c κs = search needs
 
 -- src/lib.rt:41:25
-add-wide : tie.Need-add-wide
-add-wide c = search needs
+add-widen : tie.Need-add-widen
+add-widen c = search needs
 
 -- src/lib.rt:41:21
-shared-slice-read-wide-2 : tie.Need-shared-slice-read-wide-2
-shared-slice-read-wide-2 c = search needs
+shared-slice-read-widen-2 : tie.Need-shared-slice-read-widen-2
+shared-slice-read-widen-2 c = search needs
 
 -- src/lib.rt:41:9
-wide-requires-2 : tie.Need-wide-requires-2
-wide-requires-2 c κs = search needs
+widen-requires-2 : tie.Need-widen-requires-2
+widen-requires-2 c κs = search needs
 
 -- src/lib.rt:42:11
 mul-result : tie.Need-mul-result
@@ -41,17 +41,17 @@ returns : tie.Need-returns
 returns c =
     let a = c .before .before in
     let l = c .before .before .before .before .before .args in
-    (leAt-halves (l .raw .now) 1 (l .at) _ _ (a .wide .ensures .0 ∙ sym (leAt-one _ _)) (c .wide2 .ensures .0 ∙ sym (leAt-one _ _)), omega arith)
+    (leAt-halves (l .raw .now) 1 (l .at) _ _ (a .widen .ensures .0 ∙ sym (leAt-one _ _)) (c .widen2 .ensures .0 ∙ sym (leAt-one _ _)), omega arith)
 
 pub u16-at-spec : {M : Type 1} → statement M
 u16-at-spec =
     tie.close
     (tie.spec
-    shared-slice-read-wide
-    wide-requires
-    add-wide
-    shared-slice-read-wide-2
-    wide-requires-2
+    shared-slice-read-widen
+    widen-requires
+    add-widen
+    shared-slice-read-widen-2
+    widen-requires-2
     mul-result
     add-result
     returns)

@@ -10,19 +10,19 @@ use Rattle.num.proofs.uint.Lts as lts
 use Rattle.num.proofs.u16_at.Reads as u16-at-reads
 use Rattle.num.proofs.u32_at.Reads as u32-at-reads
 use Rattle.num.proofs.u64_at.Reads as u64-at-reads
-use Rattle.num.proofs.wide.Reads as wide-reads
+use Rattle.num.proofs.widen.Reads as widen-reads
 
 -- src/lib.rt:69:21
-shared-slice-read-wide : tie.Need-shared-slice-read-wide
-shared-slice-read-wide c = search needs
+shared-slice-read-widen : tie.Need-shared-slice-read-widen
+shared-slice-read-widen c = search needs
 
 -- src/lib.rt:69:9
-wide-requires : tie.Need-wide-requires
-wide-requires c κs = search needs
+widen-requires : tie.Need-widen-requires
+widen-requires c κs = search needs
 
 -- src/lib.rt:69:9
 returns : tie.Need-returns
-returns c = c .wide .ensures .0 ∙ sym (leAt-one _ _) ∙ ap (leAt _ _) (sym (c .before .before .if1 .taken))
+returns c = c .widen .ensures .0 ∙ sym (leAt-one _ _) ∙ ap (leAt _ _) (sym (c .before .before .if1 .taken))
 
 -- src/lib.rt:72:9
 u16-at-requires : tie.Need-u16-at-requires
@@ -61,8 +61,8 @@ pub uint-spec : {M : Type 1} → statement M
 uint-spec =
     tie.close
     (tie.spec
-    shared-slice-read-wide
-    wide-requires
+    shared-slice-read-widen
+    widen-requires
     returns
     u16-at-requires
     returns-2

@@ -4,7 +4,7 @@ use Prim.Native.Nat.{_+_, _-_, _/_, _%_, _≤_}
 use native.Mathlib.Nat.{sub-zero}
 use lib.Bits.{bitXor}
 use lib.ListN.{length}
-use Rattle.point.specs.Hash.{mixOf, absorbOf, chunksOf, hashOf}
+use Rattle.point.specs.Hash.{mixOf, hashChunk, chunksOf, hashOf}
 use Rattle.point.proofs.Hashing.{chunks-more, chunks-none, tail-left}
 use Rattle.point.proofs.hash.Statement.{statement}
 use Rattle.point.proofs.hash.Tie as tie
@@ -27,8 +27,8 @@ sub-loop c = search needs
 u64-at-requires : tie.Need-u64-at-requires Inv-loop μ-loop
 u64-at-requires c κs = search needs
 
-absorb-requires : tie.Need-absorb-requires Inv-loop μ-loop
-absorb-requires c κs = search needs
+hash-chunk-requires : tie.Need-hash-chunk-requires Inv-loop μ-loop
+hash-chunk-requires c κs = search needs
 
 add-at : tie.Need-add-at Inv-loop μ-loop
 add-at c = search needs
@@ -44,7 +44,7 @@ loop-again c =
     let i = l .loop .inv in (
       search needs,
       search needs,
-      ap (chunksOf ((length s - (at + 8)) / 8) s (at + 8)) (c .absorb .ensures ∙ ap (absorbOf (l .loop .h)) (c .before .u64-at .ensures))
+      ap (chunksOf ((length s - (at + 8)) / 8) s (at + 8)) (c .hash-chunk .ensures ∙ ap (hashChunk (l .loop .h)) (c .before .u64-at .ensures))
           ∙ chunks-more s (length s) at (l .loop .h) (c .before .before .loop-test .taken)
           ∙ i .2,
     )
@@ -79,7 +79,7 @@ hash-spec =
     loop-holds
     sub-loop
     u64-at-requires
-    absorb-requires
+    hash-chunk-requires
     add-at
     loop-less
     loop-again

@@ -2,13 +2,13 @@ use mathlib.Core.Path.{_≡_, refl, sym, _∙_}
 use Prim.Native.Nat.{_≤_, _+_, _-_}
 use lib.ListN.{drop}
 use borrow.Author.Needs.{needs}
-use Rattle.num.specs.Order.{sharedLength}
-use Rattle.num.proofs.Order.{sharedLength-agree, sharedLength-differ, sharedLength-end}
+use Rattle.num.specs.Order.{commonPrefixLen}
+use Rattle.num.proofs.Order.{commonPrefixLen-agree, commonPrefixLen-differ, commonPrefixLen-end}
 use Rattle.sstable.proofs.shared_bytes.Statement.{statement}
 use Rattle.sstable.proofs.shared_bytes.Tie as tie
 
 abbrev Inv-loop : tie.InvT-loop
-Inv-loop a b from end i₀ i = (i ≤ end) × (i + sharedLength (drop i a) (drop i b) ≡ from + sharedLength (drop from a) (drop from b))
+Inv-loop a b from end i₀ i = (i ≤ end) × (i + commonPrefixLen (drop i a) (drop i b) ≡ from + commonPrefixLen (drop from a) (drop from b))
 
 abbrev μ-loop : tie.MeasureT-loop
 μ-loop a b from end i₀ i = end - i
@@ -25,7 +25,7 @@ shared-slice-read-if1-2 c = search needs
 returns : tie.Need-returns Inv-loop μ-loop
 returns c =
     let k = c .before .before .before .before in
-    sym (sharedLength-differ _ _ _ (search needs) (search needs) (c .if1 .taken)) ∙ k .loop .inv .1
+    sym (commonPrefixLen-differ _ _ _ (search needs) (search needs) (c .if1 .taken)) ∙ k .loop .inv .1
 
 add-i : tie.Need-add-i Inv-loop μ-loop
 add-i c = search needs
@@ -36,10 +36,10 @@ loop-less c = search needs
 loop-again : tie.Need-loop-again Inv-loop μ-loop
 loop-again c =
     let k = c .before .before .before .before in
-    (search needs, sym (sharedLength-agree _ _ _ (search needs) (search needs) (c .if1 .left)) ∙ k .loop .inv .1)
+    (search needs, sym (commonPrefixLen-agree _ _ _ (search needs) (search needs) (c .if1 .left)) ∙ k .loop .inv .1)
 
 returns-2 : tie.Need-returns-2 Inv-loop μ-loop
-returns-2 c = sym (sharedLength-end _ _ _ (search needs)) ∙ c .before .loop .inv .1
+returns-2 c = sym (commonPrefixLen-end _ _ _ (search needs)) ∙ c .before .loop .inv .1
 
 pub shared-bytes-spec : {M : Type 1} → statement M
 shared-bytes-spec =

@@ -4,14 +4,14 @@ use native.Mathlib.Nat.{zero-add}
 use lib.ListN.{drop}
 use borrow.Author.Needs.{needs}
 use Rattle.num.specs.Number.{leAt}
-use Rattle.num.specs.Order.{sharedLength}
-use Rattle.num.proofs.Order.{sharedLength-from}
+use Rattle.num.specs.Order.{commonPrefixLen}
+use Rattle.num.proofs.Order.{commonPrefixLen-from}
 use Rattle.num.proofs.Number.{leAt-bytes}
 use Rattle.sstable.proofs.shared_words.Statement.{statement}
 use Rattle.sstable.proofs.shared_words.Tie as tie
 
 abbrev Inv-loop : tie.InvT-loop
-Inv-loop a b end i₀ i = (i ≤ end) × (i + sharedLength (drop i a) (drop i b) ≡ sharedLength a b)
+Inv-loop a b end i₀ i = (i ≤ end) × (i + commonPrefixLen (drop i a) (drop i b) ≡ commonPrefixLen a b)
 
 abbrev μ-loop : tie.MeasureT-loop
 μ-loop a b end i₀ i = end - i
@@ -44,7 +44,7 @@ loop-again c =
     let l = k .before .before .before in
     let same : leAt (l .args .a .now) i 8 ≡ leAt (l .args .b .now) i 8 = sym (c .before .before .u64-at .ensures) ∙ c .if1 .left ∙ c .before .u64-at2 .ensures in (
       search needs,
-      sym (sharedLength-from (l .args .a .now) (l .args .b .now) i 8 (search needs) (search needs)
+      sym (commonPrefixLen-from (l .args .a .now) (l .args .b .now) i 8 (search needs) (search needs)
           (leAt-bytes (l .args .a .now) (l .args .b .now) (λ n. k .before .before .shared-slice-known .given n .fits) (λ n. k .before .shared-slice-known2 .given n .fits) 8 i i same)) ∙ k .loop .inv .1,
     )
 

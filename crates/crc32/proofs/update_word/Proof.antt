@@ -3,10 +3,10 @@ use native.Mathlib.Omega.{arith}
 use lib.Bits.{bitXor}
 use Rattle.crc32.proofs.Table.{tables, entry-steps, eight-tables}
 use borrow.Author.Needs.{needs}
-use Rattle.crc32.proofs.eight.Statement.{statement}
-use Rattle.crc32.proofs.eight.Tie as tie
-use Rattle.crc32.proofs.eight.Reads as reads
-use Rattle.crc32.proofs.eight.Lts as lts
+use Rattle.crc32.proofs.update_word.Statement.{statement}
+use Rattle.crc32.proofs.update_word.Tie as tie
+use Rattle.crc32.proofs.update_word.Reads as reads
+use Rattle.crc32.proofs.update_word.Lts as lts
 use Rattle.crc32.proofs.entry.Reads as entry-reads
 
 -- src/lib.rt:36:16
@@ -56,8 +56,8 @@ returns c =
     (c .before .before .before .before .entry4 .ensures ∙ entry-steps 0 _ (omega arith))))))))
     ∙ eight-tables (a .args .state) (a .args .bytes) (a .fits .state .fits) (a .fits .bytes .fits)
 
-pub eight-spec : {M : Type 1} → statement M
-eight-spec =
+pub update-word-spec : {M : Type 1} → statement M
+update-word-spec =
     tie.close
     (tie.spec
     entry-requires
