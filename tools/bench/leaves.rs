@@ -1,17 +1,9 @@
 //! CRC-32, hash and block verify.
 use crate::blocks::{Entry, block};
-use crate::measure::{Row, Work};
+use crate::measure::{Row, repeated, row};
+use crate::ours;
 use crate::rng::Rng;
 use std::hint::black_box;
-
-/// The work of asking `ask` again and again.
-fn repeated(mut ask: impl FnMut() -> u64 + 'static) -> Work {
-    Box::new(move |times| (0..times).fold(0, |sum, _| sum ^ ask()))
-}
-
-fn row(name: String, limit: Option<f64>, ours: Work, rust: Work) -> Row {
-    Row { name, ours, rust, units: 1, limit }
-}
 
 fn size(bytes: usize) -> String {
     match bytes {
@@ -23,55 +15,43 @@ fn size(bytes: usize) -> String {
 
 const SIZES: [usize; 5] = [8, 16, 64, 1024, 1 << 20];
 
-fn rust_crc(data: Vec<u8>) -> Work {
+fn rust_crc(data: Vec<u8>) -> crate::measure::Work {
     use oracle::crc32::{INITIAL, access::update_scalar, finalize};
     repeated(move || finalize(update_scalar(INITIAL, black_box(&data))).into())
 }
 
 #[cfg(has = "kiban_crc32")]
 pub fn crc(rng: &mut Rng) -> Vec<Row> {
-    unsafe extern "C" {
-        fn kiban_crc32(data: *const u8, length: usize) -> u32;
-    }
     let one = |bytes| {
         let data = rng.bytes(bytes);
         let lent = data.clone();
-        // SAFETY: the pointer and length are those of a live buffer.
-        let ours = repeated(move || unsafe { kiban_crc32(black_box(&lent).as_ptr(), lent.len()).into() });
-        row(format!("crc32, {}", size(bytes)), None, ours, rust_crc(data))
+        let ours = repeated(move || ours::crc32(black_box(&lent)).into());
+        row(format!("crc32, {}", size(bytes)), 1, None, ours, rust_crc(data))
     };
     SIZES.map(one).into()
 }
 
 #[cfg(has = "probe_crc32_lent")]
 pub fn crc_lent(rng: &mut Rng) -> Vec<Row> {
-    unsafe extern "C" {
-        fn probe_crc32_lent(table: *const [[u32; 256]; 8], data: *const u8, length: usize) -> u32;
-    }
     let table = oracle::crc32::access::slices();
     let one = |bytes| {
         let data = rng.bytes(bytes);
         let lent = data.clone();
-        // SAFETY: the pointers and the length are those of live buffers.
-        let ours = repeated(move || unsafe { probe_crc32_lent(table, black_box(&lent).as_ptr(), lent.len()).into() });
+        let ours = repeated(move || ours::crc32_lent(table, black_box(&lent)).into());
         let limit = if bytes < 64 { 2.0 } else { 1.1 };
-        row(format!("crc32, table lent, {}", size(bytes)), Some(limit), ours, rust_crc(data))
+        row(format!("crc32, table lent, {}", size(bytes)), 1, Some(limit), ours, rust_crc(data))
     };
     SIZES.map(one).into()
 }
 
 #[cfg(has = "probe_hash")]
 pub fn hash(rng: &mut Rng) -> Vec<Row> {
-    unsafe extern "C" {
-        fn probe_hash(key: *const u8, length: usize, seed: u64) -> u64;
-    }
     let one = |bytes| {
         let key = rng.bytes(bytes);
         let lent = key.clone();
-        // SAFETY: the pointer and length are those of a live buffer.
-        let ours = repeated(move || unsafe { probe_hash(black_box(&lent).as_ptr(), lent.len(), black_box(7)) });
+        let ours = repeated(move || ours::hash(black_box(&lent), black_box(7)));
         let rust = repeated(move || oracle::point::hash(black_box(&key), black_box(7)));
-        row(format!("hash, {bytes}-byte key"), Some(1.1), ours, rust)
+        row(format!("hash, {bytes}-byte key"), 1, Some(1.1), ours, rust)
     };
     [8, 20].map(one).into()
 }
@@ -87,19 +67,15 @@ fn sample(rng: &mut Rng, count: usize) -> Vec<u8> {
 
 #[cfg(has = "probe_verify")]
 pub fn verify(rng: &mut Rng) -> Vec<Row> {
-    unsafe extern "C" {
-        fn probe_verify(raw: *const u8, length: usize, meta: *mut [u64; 3]) -> u64;
-    }
     let one = |count| {
         let raw = sample(rng, count);
         let (lent, name) = (raw.clone(), format!("block verify, {} bytes", raw.len()));
         let ours = repeated(move || {
             let mut meta = [0; 3];
-            // SAFETY: the pointers and the length are those of live buffers.
-            unsafe { probe_verify(black_box(&lent).as_ptr(), lent.len(), &mut meta) ^ meta[0] }
+            ours::verify(black_box(&lent), &mut meta) ^ meta[0]
         });
         let rust = repeated(move || oracle::block::verify_plain(black_box(&raw)).map_or(1, |m| m.entries_end as u64));
-        row(name, Some(1.2), ours, rust)
+        row(name, 1, Some(1.2), ours, rust)
     };
     [1, 50, 800].map(one).into()
 }

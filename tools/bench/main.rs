@@ -4,11 +4,14 @@
 
 #[path = "../common/blocks.rs"]
 mod blocks;
+#[path = "../common/ours.rs"]
+mod ours;
 #[path = "../common/rng.rs"]
 mod rng;
 
 mod leaves;
 mod measure;
+mod stores;
 
 use rng::Rng;
 
@@ -46,6 +49,10 @@ fn main() {
         "kiban_crc32": leaves::crc;
         "probe_hash": leaves::hash;
         "probe_verify": leaves::verify;
+        "kiban_open": stores::opening;
+        "kiban_open_packed": stores::opening_packed;
+        "kiban_lookup": stores::lookups;
+        "kiban_write": stores::building;
     };
     println!("{rounds} interleaved rounds, medians, per call or per record");
     measure::measure(rows, rounds);

@@ -15,6 +15,15 @@ pub struct Row {
     pub limit: Option<f64>,
 }
 
+/// The work of asking `ask` again and again.
+pub fn repeated(mut ask: impl FnMut() -> u64 + 'static) -> Work {
+    Box::new(move |times| (0..times).fold(0, |sum, _| sum ^ ask()))
+}
+
+pub fn row(name: String, units: usize, limit: Option<f64>, ours: Work, rust: Work) -> Row {
+    Row { name, ours, rust, units, limit }
+}
+
 /// How long one batch of a side shall take.
 const BATCH_NS: f64 = 300_000.0;
 

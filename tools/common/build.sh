@@ -27,7 +27,7 @@ build_oracle() {
 
 build_library() {
     if [ -z "$lib" ]; then
-        (cd "$root" && rt staticlib probe) || { echo "the library was not built" >&2 && exit 2; }
+        (cd "$root" && rt staticlib probe >&2) || { echo "the library was not built" >&2 && exit 2; }
         lib=$root/target/staticlib/libprobe.a
     fi
     lib=$(realpath "$lib")

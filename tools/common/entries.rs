@@ -47,9 +47,7 @@ fn value(rng: &mut Rng, most: usize) -> Vec<u8> {
 
 /// Strictly falling sequences in a range whose width in bits is chosen once per store.
 fn sequences(rng: &mut Rng, count: usize, base: u64, bits: usize) -> Vec<u64> {
-    let mut all: Vec<u64> = (0..count)
-        .map(|_| base.saturating_add(rng.next() >> (64 - bits)))
-        .collect();
+    let mut all: Vec<u64> = (0..count).map(|_| base.saturating_add(rng.next() >> (64 - bits))).collect();
     all.sort_by(|a, b| b.cmp(a));
     all.dedup();
     all
@@ -58,8 +56,10 @@ fn sequences(rng: &mut Rng, count: usize, base: u64, bits: usize) -> Vec<u64> {
 /// The entries of about `count` keys.
 pub fn entries(rng: &mut Rng, count: usize) -> Vec<Entry> {
     let (base, bits) = (rng.wide(), rng.pick(&[3, 8, 9, 16, 17, 32, 33, 64]));
-    let most_versions = rng.pick(&[1, 1, 2, 4]);
-    let most_value = rng.pick(&[0, 5, 40]);
+    // Long values and many versions, for the wider numbers, come seldom and in small stores.
+    let rare = count <= 5 && rng.one_in(100);
+    let usual = (rng.pick(&[1, 1, 2, 4]), rng.pick(&[0, 5, 40]));
+    let (most_versions, most_value) = if rare { rng.pick(&[(300, 5), (2, 33_000)]) } else { usual };
     let mut entries = Vec::new();
     for key in keys(rng, count) {
         let versions = rng.between(1, most_versions);

@@ -37,9 +37,7 @@ const NUMBERS: &[(&str, u64)] = &[
 pub const NO_NUMBER: u64 = u64::MAX;
 
 pub fn number(message: &str) -> u64 {
-    let text = message
-        .trim_start_matches("sstable corrupt: ")
-        .trim_start_matches("sstable invalid argument: ");
+    let text = message.trim_start_matches("sstable corrupt: ").trim_start_matches("sstable invalid argument: ");
     let known = NUMBERS.iter().find(|(beginning, _)| text.starts_with(beginning));
     known.map_or(NO_NUMBER, |&(_, number)| number)
 }

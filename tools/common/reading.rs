@@ -33,9 +33,7 @@ fn packed_record(section: &[u8]) -> Option<Record> {
         && number(24, 8) == 64 + 4 * b + n * (widths[0] + 2)
         && arena < section.len() as u64 - 5;
     let [address, key, count, sequence, value] = widths;
-    fits.then(|| {
-        [number(8, 8), number(56, 8), n, b, arena, address, key, count, sequence, value, 1, 0, 1]
-    })
+    fits.then(|| [number(8, 8), number(56, 8), n, b, arena, address, key, count, sequence, value, 1, 0, 1])
 }
 
 /// Question 24: the thirteen numbers, or the refusal.

@@ -86,6 +86,10 @@ impl Form {
         if self.widths[3] == 8 {
             self.least -= rng.next() % (self.least + 1).max(1);
         }
+        // A base that is lower by little also shows sums of 2^64 and more, where it wraps.
+        if rng.one_in(4) {
+            self.least = self.least.wrapping_sub(rng.between(1, 3) as u64);
+        }
         self.checksums = !rng.one_in(4);
         self
     }
@@ -189,4 +193,18 @@ pub fn section(entries: &[Entry], offsets: &[u64], form: &Form) -> Option<Sectio
     out.number(0, 4);
     seal(&mut out.bytes);
     Some(out)
+}
+
+/// The records of the blocks that can be walked.
+pub fn records(data: &[u8], list: &[u64]) -> Vec<oracle::block::Record> {
+    let mut all = Vec::new();
+    for pair in list.chunks_exact(2) {
+        let end = pair[0].checked_add(pair[1]).filter(|&end| end <= data.len() as u64);
+        let Some(end) = end else { break };
+        let raw = &data[pair[0] as usize..end as usize];
+        if let Ok(meta) = oracle::block::verify(raw) {
+            all.extend(oracle::block::walk(raw, meta).0);
+        }
+    }
+    all
 }

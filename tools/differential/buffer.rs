@@ -27,16 +27,8 @@ impl Buffer {
         &self.bytes[self.start..self.start + self.length]
     }
 
-    pub fn as_ptr(&self) -> *const u8 {
-        self.part().as_ptr()
-    }
-
-    pub fn as_mut_ptr(&mut self) -> *mut u8 {
-        self.bytes[self.start..].as_mut_ptr()
-    }
-
-    pub fn len(&self) -> usize {
-        self.length
+    pub fn part_mut(&mut self) -> &mut [u8] {
+        &mut self.bytes[self.start..self.start + self.length]
     }
 
     /// The answer, or one that no side expects if a byte outside the lent part was written.

@@ -8,10 +8,11 @@ pub struct Case {
     pub bytes: Vec<Vec<u8>>,
 }
 
-/// An answer: the refusal's number or 0, the numbers given, and the bytes given.
+/// An answer: the refusal's number or 0, a word to count it by, the numbers given, and the bytes given.
 #[derive(Clone, Debug, PartialEq, Default)]
 pub struct Answer {
     pub number: u64,
+    pub note: &'static str,
     pub words: Vec<u64>,
     pub bytes: Vec<u8>,
 }
@@ -67,11 +68,7 @@ impl fmt::Display for Case {
 
 impl Case {
     pub fn new(kind: &'static str, numbers: &[u64], bytes: &[&[u8]]) -> Self {
-        Case {
-            kind,
-            numbers: numbers.to_vec(),
-            bytes: bytes.iter().map(|part| part.to_vec()).collect(),
-        }
+        Case { kind, numbers: numbers.to_vec(), bytes: bytes.iter().map(|part| part.to_vec()).collect() }
     }
 
     /// The kind is the layer's own text, so that it lives as long as the program.

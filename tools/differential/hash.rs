@@ -1,26 +1,14 @@
 //! The hash, fingerprint, bucket, position, and the slot that a pilot names.
 use crate::buffer::Buffer;
 use crate::case::{Answer, Case};
+use crate::ours;
 use crate::rng::Rng;
 use crate::run::Run;
 use crate::{Layer, tiny};
 use oracle::point;
 
-unsafe extern "C" {
-    fn probe_hash(key: *const u8, length: usize, seed: u64) -> u64;
-    fn probe_fingerprint(h: u64) -> u64;
-    fn probe_bucket(h: u64, count: u64) -> u64;
-    fn probe_position(h: u64, pilot: u64, n: u64) -> u64;
-    fn probe_slot(h: u64, pilot: u64, n: u64) -> u64;
-}
-
-pub const LAYER: Layer = Layer {
-    name: "hash",
-    kinds: &["hash", "fingerprint", "bucket", "position", "slot"],
-    ask,
-    fixed,
-    round,
-};
+pub const LAYER: Layer =
+    Layer { name: "hash", kinds: &["hash", "fingerprint", "bucket", "position", "slot"], ask, fixed, round };
 
 /// Where the Rust divides by zero and panics, 0 is expected.
 fn divided(by: u64, answer: Result<usize, String>) -> u64 {
@@ -33,30 +21,26 @@ fn divided(by: u64, answer: Result<usize, String>) -> u64 {
 /// Numbers: for the hash seed and shift, else the function's own in order.
 fn ask(case: &Case) -> Option<(Answer, Answer)> {
     let number = |place: usize| case.numbers[place];
-    // SAFETY: the pointer and length are those of a live buffer.
-    let (ours, expected) = unsafe {
-        match case.kind {
-            "hash" => {
-                let key = Buffer::input(&case.bytes[0], number(1));
-                let ours = probe_hash(key.as_ptr(), key.len(), number(0));
-                (ours, point::hash(&case.bytes[0], number(0)))
-            }
-            "fingerprint" => (probe_fingerprint(number(0)), point::fingerprint(number(0)).into()),
-            "bucket" => {
-                let (h, count) = (number(0), number(1));
-                let expected = divided(count, point::bucket(h, count as usize));
-                (probe_bucket(h, count), expected)
-            }
-            "position" => {
-                let (h, pilot, n) = (number(0), number(1), number(2));
-                let expected = divided(n, point::position(h, pilot as u32, n as usize));
-                (probe_position(h, pilot, n), expected)
-            }
-            _ => {
-                let (h, pilot, n) = (number(0), number(1), number(2));
-                let expected = divided(n, point::slot(h, pilot as u32, n as usize));
-                (probe_slot(h, pilot, n), expected)
-            }
+    let (ours, expected) = match case.kind {
+        "hash" => {
+            let key = Buffer::input(&case.bytes[0], number(1));
+            (ours::hash(key.part(), number(0)), point::hash(&case.bytes[0], number(0)))
+        }
+        "fingerprint" => (ours::probe_fingerprint(number(0)), point::fingerprint(number(0)).into()),
+        "bucket" => {
+            let (h, count) = (number(0), number(1));
+            let expected = divided(count, point::bucket(h, count as usize));
+            (ours::probe_bucket(h, count), expected)
+        }
+        "position" => {
+            let (h, pilot, n) = (number(0), number(1), number(2));
+            let expected = divided(n, point::position(h, pilot as u32, n as usize));
+            (ours::probe_position(h, pilot, n), expected)
+        }
+        _ => {
+            let (h, pilot, n) = (number(0), number(1), number(2));
+            let expected = divided(n, point::slot(h, pilot as u32, n as usize));
+            (ours::probe_slot(h, pilot, n), expected)
         }
     };
     Some((Answer::one(ours), Answer::one(expected)))

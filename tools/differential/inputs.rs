@@ -10,6 +10,29 @@ pub fn tiny(mut each: impl FnMut(&[u8])) {
     (0..=u16::MAX).for_each(|ab| each(&ab.to_le_bytes()));
 }
 
+/// All tiny strings, and each length below 200 at each distance from an aligned place.
+pub fn fixed_data(mut each: impl FnMut(&[u8], u64)) {
+    tiny(|data| each(data, 0));
+    each(b"123456789", 0);
+    for length in 0..200 {
+        let data: Vec<u8> = (0..length).map(|i| (i * 37 + length) as u8).collect();
+        (0..8).for_each(|shift| each(&data, shift));
+    }
+}
+
+/// Random bytes, most of them short, and seldom about 1 MiB.
+pub fn random_data(rng: &mut Rng, mut each: impl FnMut(&[u8], u64)) {
+    for _ in 0..50 {
+        let most = rng.pick(&[16, 70, 300, 300, 5000]);
+        let length = rng.between(0, most);
+        each(&rng.bytes(length), rng.next() % 8);
+    }
+    if rng.one_in(200) {
+        let length = rng.between(1 << 20, (1 << 20) + 9);
+        each(&rng.bytes(length), rng.next() % 8);
+    }
+}
+
 /// A valid block and the length of its longest key.
 pub struct Sample {
     pub block: Block,

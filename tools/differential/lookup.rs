@@ -2,25 +2,14 @@
 use crate::Layer;
 use crate::buffer::Buffer;
 use crate::case::{Answer, Case};
-use crate::forge::{Input, forge};
+use crate::forge::{self, Input};
 use crate::numbers::NO_NUMBER;
+use crate::ours;
 use crate::reading;
 use crate::rng::Rng;
 use crate::run::Run;
+use crate::stores::records;
 use oracle::compact::{Index, Located, forged, open, open_packed};
-
-unsafe extern "C" {
-    fn kiban_lookup(
-        section: *const u8,
-        section_len: usize,
-        record: *const [u64; 16],
-        key: *const u8,
-        key_len: usize,
-        limit: u64,
-        answer: *mut [u64; 6],
-    ) -> u64;
-    fn kiban_value(data: *const u8, data_len: usize, offset: u64, length: u64) -> u64;
-}
 
 pub const LAYER: Layer = Layer { name: "lookup", kinds: &["lookup", "value"], ask, fixed, round };
 
@@ -37,13 +26,17 @@ fn ask(case: &Case) -> Option<(Answer, Answer)> {
 fn our_lookup(case: &Case) -> Option<Answer> {
     let record: [u64; 16] = case.numbers[..16].try_into().ok()?;
     let (section, key) = (Buffer::input(&case.bytes[0], 1), Buffer::input(&case.bytes[1], 3));
-    let (at, limit) = (section.as_ptr(), case.numbers[16]);
     let mut answer = BEFORE;
-    // SAFETY: the pointers and lengths are those of live buffers.
-    let number = unsafe {
-        kiban_lookup(at, section.len(), &record, key.as_ptr(), key.len(), limit, &mut answer)
-    };
-    Some(Answer { number, ..Answer::words(answer.to_vec()) })
+    let number = ours::lookup(section.part(), &record, key.part(), case.numbers[16], &mut answer);
+    Some(Answer { number, note: note(number, answer[0]), ..Answer::words(answer.to_vec()) })
+}
+
+fn note(number: u64, found: u64) -> &'static str {
+    match (number, found) {
+        (0, 0) => "none",
+        (0, _) => "found",
+        _ => "",
+    }
 }
 
 fn located(found: Option<Located>) -> Vec<u64> {
@@ -62,7 +55,7 @@ fn rust_lookup(case: &Case) -> Option<Answer> {
         if rust == found { Ok(rust) } else { Err(NO_NUMBER) }
     });
     Some(match read {
-        Ok(found) => Answer::words(located(found)),
+        Ok(found) => Answer { note: note(0, found.is_some().into()), ..Answer::words(located(found)) },
         Err(number) => Answer { number, ..Answer::words(BEFORE.to_vec()) },
     })
 }
@@ -70,8 +63,7 @@ fn rust_lookup(case: &Case) -> Option<Answer> {
 /// Numbers: offset, length. Part: data.
 fn value(case: &Case) -> (Answer, Answer) {
     let (data, offset, length) = (&case.bytes[0], case.numbers[0], case.numbers[1]);
-    // SAFETY: the pointer and length are those of a live buffer.
-    let ours = unsafe { kiban_value(data.as_ptr(), data.len(), offset, length) };
+    let ours = ours::value(data, offset, length);
     let inside = u128::from(offset) + u128::from(length) <= data.len() as u128;
     let expected = if inside { 0 } else { 26 };
     (Answer::refused(ours), Answer::refused(expected))
@@ -83,30 +75,42 @@ fn lookup(run: &mut Run, section: &[u8], record: &[u64; 16], key: &[u8], limit: 
 }
 
 fn fixed(run: &mut Run) {
+    values(run);
+    for store in [forge::worked(0), forge::worked(1), forge::single()] {
+        for index in indexes(&store) {
+            other_records(run, &index);
+            for limit in (0..9).chain([u64::MAX]) {
+                for key in [&b""[..], b"a", b"ab", b"ac", b"ad", b"abc", b"k"] {
+                    lookup(run, index.bytes(), &record(&index), key, limit);
+                }
+            }
+        }
+        headers(run, forge::neighbours(&store));
+    }
+    headers(run, forge::bare());
+    for (input, key) in forge::wrapping() {
+        let record = header_record(&input.section).expect("a header");
+        lookup(run, &input.section, &record, &key, u64::MAX);
+    }
+}
+
+/// Lookups in bytes that no opening accepted, with the record that the header gives, or nearly so.
+fn headers(run: &mut Run, inputs: Vec<Input>) {
+    for Input { section, .. } in inputs.iter().filter(|input| input.section.len() < 1 << 20) {
+        let record = header_record(section).unwrap_or([7, 0, 1, 1, 74, 4, 1, 1, 1, 2, 1, 0, 0, 0, 0, 0]);
+        for key in [&b"ab"[..], b"ac", b"k"] {
+            lookup(run, section, &record, key, 4);
+            lookup(run, section, &record, key, u64::MAX);
+        }
+    }
+}
+
+fn values(run: &mut Run) {
     let numbers = [0, 1, 2, 3, 4, 1 << 32, 1 << 63, u64::MAX - 1, u64::MAX];
     for data in [&b""[..], b"abc"] {
         for offset in numbers {
             for length in numbers {
                 run.compare(ask, Case::new("value", &[offset, length], &[data]));
-            }
-        }
-    }
-    for prefix in [0, 1] {
-        let worked = crate::forge::worked(prefix);
-        for index in indexes(&worked) {
-            records(run, &index);
-            for limit in (0..9).chain([u64::MAX]) {
-                for key in [&b""[..], b"a", b"ab", b"ac", b"ad", b"abc"] {
-                    lookup(run, index.bytes(), &record(&index), key, limit);
-                }
-            }
-        }
-        for neighbour in crate::forge::neighbours(&worked) {
-            if let Some(record) = header_record(&neighbour.section) {
-                for key in [&b"ab"[..], b"ac", b"b"] {
-                    lookup(run, &neighbour.section, &record, key, 4);
-                    lookup(run, &neighbour.section, &record, key, u64::MAX);
-                }
             }
         }
     }
@@ -134,7 +138,7 @@ fn indexes(input: &Input) -> Vec<Index> {
 }
 
 /// Records with one number changed: 24, or a lookup that still agrees.
-fn records(run: &mut Run, index: &Index) {
+fn other_records(run: &mut Run, index: &Index) {
     for place in 0..16 {
         for change in [1, 2, u64::MAX, 1 << 32] {
             let mut record = record(index);
@@ -144,9 +148,9 @@ fn records(run: &mut Run, index: &Index) {
     }
 }
 
-/// A key of the store, one near it, or another.
-fn key(rng: &mut Rng, keys: &[Vec<u8>]) -> Vec<u8> {
-    let mut key = if keys.is_empty() { Vec::new() } else { keys[rng.below(keys.len())].clone() };
+/// This key, one near it, or another.
+fn key(rng: &mut Rng, near: &[u8]) -> Vec<u8> {
+    let mut key = near.to_vec();
     match rng.below(6) {
         0 => key.push(rng.pick(&[0, 255])),
         1 => _ = key.pop(),
@@ -157,40 +161,24 @@ fn key(rng: &mut Rng, keys: &[Vec<u8>]) -> Vec<u8> {
     key
 }
 
-/// The keys and sequences that the blocks of an input hold.
-fn held(input: &Input) -> (Vec<Vec<u8>>, Vec<u64>) {
-    let (mut keys, mut sequences) = (Vec::new(), Vec::new());
-    for pair in input.list.chunks_exact(2) {
-        let end = pair[0].checked_add(pair[1]).filter(|&end| end <= input.data.len() as u64);
-        let Some(end) = end else { break };
-        let raw = &input.data[pair[0] as usize..end as usize];
-        if let Ok(meta) = oracle::block::verify(raw) {
-            for record in oracle::block::walk(raw, meta).0 {
-                keys.push(record.key);
-                sequences.push(record.sequence);
-            }
-        }
-    }
-    (keys, sequences)
-}
-
 fn lookups(run: &mut Run, section: &[u8], record: &[u64; 16], input: &Input, rng: &mut Rng) {
-    let (keys, sequences) = held(input);
+    let held = records(&input.data, &input.list);
     for _ in 0..4 {
-        let near = sequences.get(rng.below(sequences.len().max(1))).copied().unwrap_or(0);
+        let near = held.get(rng.below(held.len().max(1)));
+        let (near_key, near) = near.map_or((&[][..], 0), |record| (&record.key, record.sequence));
         let limit = match rng.below(4) {
             0 => u64::MAX,
             1 => near,
             2 => near.wrapping_sub(1),
             _ => rng.wide(),
         };
-        let key = key(rng, &keys);
+        let key = key(rng, near_key);
         lookup(run, section, record, &key, limit);
     }
 }
 
 fn round(run: &mut Run, rng: &mut Rng) {
-    for input in forge(rng) {
+    for input in forge::forge(rng) {
         for index in indexes(&input) {
             lookups(run, index.bytes(), &record(&index), &input, rng);
             damaged_lookups(run, &index, &input, rng);

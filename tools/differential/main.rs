@@ -4,14 +4,20 @@
 
 #[path = "../common/blocks.rs"]
 mod blocks;
+#[path = "../common/building.rs"]
+mod building_expected;
 #[path = "../common/damage.rs"]
 mod damage;
 #[path = "../common/entries.rs"]
 mod entries;
+#[path = "../common/forge.rs"]
+mod forge;
 #[path = "../common/numbers.rs"]
 mod numbers;
 #[path = "../common/opening.rs"]
 mod opening_expected;
+#[path = "../common/ours.rs"]
+mod ours;
 #[path = "../common/reading.rs"]
 mod reading;
 #[path = "../common/rng.rs"]
@@ -21,7 +27,6 @@ mod stores;
 
 mod buffer;
 mod case;
-mod forge;
 mod inputs;
 mod run;
 mod shrink;
@@ -62,7 +67,8 @@ macro_rules! layers {
 }
 
 layers! {
-    crc: "kiban_crc32" "probe_crc32_update" "probe_crc32_lent";
+    crc: "kiban_crc32";
+    crc_parts: "probe_crc32_lent" "probe_crc32_update";
     hash: "probe_hash" "probe_fingerprint" "probe_bucket" "probe_position" "probe_slot";
     trailer: "probe_trailer";
     verify: "probe_verify";
@@ -72,6 +78,7 @@ layers! {
     opening: "kiban_open" "kiban_open_packed";
     lookup: "kiban_lookup" "kiban_value";
     spans: "kiban_span";
+    building: "kiban_add" "kiban_size" "kiban_write";
 }
 
 struct Options {
@@ -153,6 +160,6 @@ fn main() {
         (layer.fixed)(&mut run);
     }
     rounds(&mut run, &layers, &options);
-    run.finish();
-    absent.into_iter().filter_map(Result::err).for_each(|text| println!("not compared: {text}"));
+    let absent: Vec<String> = absent.into_iter().filter_map(Result::err).collect();
+    run.finish(&absent);
 }

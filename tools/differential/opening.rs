@@ -3,39 +3,12 @@ use crate::Layer;
 use crate::blocks::Entry;
 use crate::buffer::Buffer;
 use crate::case::{Answer, Case};
-use crate::forge::{Input, forge, le64};
+use crate::forge::{self, Input, le64};
 use crate::opening_expected as expected;
+use crate::ours;
 use crate::rng::Rng;
 use crate::run::Run;
 use oracle::compact::Index;
-
-unsafe extern "C" {
-    fn kiban_open(
-        section: *const u8,
-        section_len: usize,
-        data: *const u8,
-        data_len: usize,
-        blocks: *const u64,
-        blocks_len: usize,
-        scratch: *mut u8,
-        scratch_len: usize,
-        record: *mut [u64; 16],
-    ) -> u64;
-    fn kiban_open_packed(
-        section: *const u8,
-        section_len: usize,
-        data: *const u8,
-        data_len: usize,
-        blocks: *const u64,
-        blocks_len: usize,
-        scratch: *mut u8,
-        scratch_len: usize,
-        output: *mut u8,
-        output_len: usize,
-        record: *mut [u64; 16],
-        length: *mut u64,
-    ) -> u64;
-}
 
 pub const LAYER: Layer = Layer { name: "opening", kinds: &["open", "open_packed"], ask, fixed, round };
 
@@ -67,20 +40,7 @@ fn our_plain(case: &Case, list: &[u64]) -> Answer {
     let (section, data) = (Buffer::input(&case.bytes[0], shift), Buffer::input(&case.bytes[1], shift + 3));
     let mut scratch = Buffer::new(case.numbers[0] as usize, b"", shift);
     let mut record = BEFORE;
-    // SAFETY: the pointers and lengths are those of live buffers.
-    let number = unsafe {
-        kiban_open(
-            section.as_ptr(),
-            section.len(),
-            data.as_ptr(),
-            data.len(),
-            list.as_ptr(),
-            list.len(),
-            scratch.as_mut_ptr(),
-            scratch.len(),
-            &mut record,
-        )
-    };
+    let number = ours::open(section.part(), data.part(), list, scratch.part_mut(), &mut record);
     scratch.guarded(Answer { number, ..Answer::words(words(&record, &[])) })
 }
 
@@ -90,24 +50,17 @@ fn our_packed(case: &Case, list: &[u64]) -> Answer {
     let mut scratch = Buffer::new(case.numbers[0] as usize, b"", shift);
     let mut output = Buffer::new(case.numbers[2] as usize, b"", shift + 1);
     let (mut record, mut length) = (BEFORE, BEFORE[0]);
-    // SAFETY: the pointers and lengths are those of live buffers.
-    let number = unsafe {
-        kiban_open_packed(
-            section.as_ptr(),
-            section.len(),
-            data.as_ptr(),
-            data.len(),
-            list.as_ptr(),
-            list.len(),
-            scratch.as_mut_ptr(),
-            scratch.len(),
-            output.as_mut_ptr(),
-            output.len(),
-            &mut record,
-            &mut length,
-        )
-    };
-    let answer = Answer { number, words: words(&record, &[length]), bytes: output.part().to_vec() };
+    let number = ours::open_packed(
+        section.part(),
+        data.part(),
+        list,
+        scratch.part_mut(),
+        output.part_mut(),
+        &mut record,
+        &mut length,
+    );
+    let bytes = output.part().to_vec();
+    let answer = Answer { number, bytes, ..Answer::words(words(&record, &[length])) };
     scratch.guarded(output.guarded(answer))
 }
 
@@ -133,9 +86,9 @@ fn rust_packed(case: &Case, list: &[u64]) -> Answer {
             let packed = index.bytes();
             output[..packed.len()].copy_from_slice(packed);
             let words = words(&record(&index), &[packed.len() as u64]);
-            Answer { words, bytes: output, ..Answer::default() }
+            Answer { bytes: output, ..Answer::words(words) }
         }
-        Err(number) => Answer { number, words: words(&BEFORE, &BEFORE[..1]), bytes: output },
+        Err(number) => Answer { number, bytes: output, ..Answer::words(words(&BEFORE, &BEFORE[..1])) },
     }
 }
 
@@ -147,16 +100,19 @@ fn both(run: &mut Run, input: &Input, scratch: usize, output: usize, shift: u64)
 
 /// Each byte of a small store's section and data changed, sealed again and not, and each cut.
 fn fixed(run: &mut Run) {
-    for prefix in [0, 1] {
-        let worked = crate::forge::worked(prefix);
+    for store in [forge::worked(0), forge::worked(1), forge::single()] {
         for scratch in 0..8 {
             for output in [0, 129, 130, 131, 200] {
-                both(run, &worked, scratch, output, 0);
+                both(run, &store, scratch, output, 0);
             }
         }
-        for input in crate::forge::neighbours(&worked) {
+        for input in forge::neighbours(&store) {
             both(run, &input, 64, 200, 0);
         }
+    }
+    let wrapping = forge::wrapping().map(|(input, _)| input);
+    for input in forge::bare().into_iter().chain(wrapping) {
+        both(run, &input, 64, input.section.len(), 0);
     }
     long_keys(run);
 }
@@ -165,7 +121,7 @@ fn fixed(run: &mut Run) {
 fn long_keys(run: &mut Run) {
     for (key, value) in [(1 << 20, 1), ((1 << 20) + 1, 1), (1, 1 << 24), (1, (1 << 24) + 1)] {
         let entry = Entry { kind: 1, key: vec![5; key], value: vec![6; value], sequence: 1 };
-        let input = crate::forge::build(&mut Rng::part(1, "long", 0), vec![entry], None);
+        let input = forge::build(&mut Rng::part(1, "long", 0), vec![entry], None);
         for scratch in [2 * key, 2 * key - 1] {
             both(run, &input, scratch, input.section.len(), 0);
         }
@@ -173,7 +129,7 @@ fn long_keys(run: &mut Run) {
 }
 
 fn round(run: &mut Run, rng: &mut Rng) {
-    for input in forge(rng) {
+    for input in forge::forge(rng) {
         let scratch = if rng.one_in(4) { rng.between(0, 2 * input.longest_key + 2) } else { 2000 };
         let less = if rng.one_in(4) { rng.between(0, 40) } else { 0 };
         let output = input.section.len().saturating_sub(less);

@@ -10,8 +10,8 @@ pub type Ask = fn(&Case) -> Option<(Answer, Answer)>;
 
 #[derive(Default)]
 pub struct Run {
-    /// For each kind of case: how often the Rust's side gave each number.
-    counts: BTreeMap<&'static str, BTreeMap<u64, u64>>,
+    /// For each kind of case: how often each number, with its note, was expected.
+    counts: BTreeMap<&'static str, BTreeMap<(u64, &'static str), u64>>,
     pub place: String,
 }
 
@@ -21,7 +21,8 @@ impl Run {
         if ours != rust {
             self.report(ask, case);
         }
-        *self.counts.entry(case.kind).or_default().entry(rust.number).or_default() += 1;
+        let answer = (rust.number, rust.note);
+        *self.counts.entry(case.kind).or_default().entry(answer).or_default() += 1;
     }
 
     fn report(&self, ask: Ask, case: Case) -> ! {
@@ -36,22 +37,24 @@ impl Run {
         exit(1)
     }
 
-    /// The table of what was compared.
-    pub fn finish(&self) {
+    /// The table of what was compared, and of the layers that could not be.
+    pub fn finish(&self, absent: &[String]) {
         println!("{:<14} {:>12}  answers: number x cases", "kind", "cases");
         for (kind, numbers) in &self.counts {
             let cases: u64 = numbers.values().sum();
-            let each: Vec<String> = numbers.iter().map(|(n, c)| format!("{} x {c}", name(*n))).collect();
+            let each: Vec<String> = numbers.iter().map(|(answer, c)| format!("{} x {c}", name(*answer))).collect();
             println!("{kind:<14} {cases:>12}  {}", each.join(", "));
         }
+        absent.iter().for_each(|text| println!("not compared, not in the archive: {text}"));
         let all: u64 = self.counts.values().flat_map(|n| n.values()).sum();
         println!("{all} cases, no difference");
     }
 }
 
-fn name(number: u64) -> String {
-    match number {
-        NO_NUMBER => "panic".to_string(),
-        number => number.to_string(),
+fn name((number, note): (u64, &str)) -> String {
+    match (number, note) {
+        (NO_NUMBER, _) => "panic".to_string(),
+        (0, "found" | "none") => note.to_string(),
+        (number, _) => number.to_string(),
     }
 }

@@ -1,13 +1,10 @@
 //! The length of a section by the builder's totals and the scan prefix.
 use crate::Layer;
 use crate::case::{Answer, Case};
+use crate::ours;
 use crate::rng::Rng;
 use crate::run::Run;
 use oracle::point::{Totals, section_len};
-
-unsafe extern "C" {
-    fn probe_section_len(totals: *const [u64; 9], prefix: u64) -> u64;
-}
 
 pub const LAYER: Layer = Layer { name: "section_len", kinds: &["section_len"], ask, fixed, round };
 
@@ -19,8 +16,7 @@ fn ask(case: &Case) -> Option<(Answer, Answer)> {
     if totals[4] < totals[3] {
         return None;
     }
-    // SAFETY: the pointer is that of a live array.
-    let ours = unsafe { probe_section_len(&totals, prefix) };
+    let ours = ours::section_len(&totals, prefix);
     let rust = Totals {
         keys: totals[0] as usize,
         versions: totals[1] as usize,
@@ -57,8 +53,6 @@ fn round(run: &mut Run, rng: &mut Rng) {
     let most = [total(20), total(24), total(30)];
     let (a, b) = (rng.wide(), rng.wide());
     let prefix = rng.between(0, 26) as u64;
-    let numbers = [
-        small[0], small[1], small[2], a.min(b), a.max(b), most[0], most[1], most[2], rng.wide(), prefix,
-    ];
+    let numbers = [small[0], small[1], small[2], a.min(b), a.max(b), most[0], most[1], most[2], rng.wide(), prefix];
     run.compare(ask, Case::new("section_len", &numbers, &[]));
 }

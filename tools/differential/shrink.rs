@@ -5,74 +5,79 @@ use std::time::{Duration, Instant};
 
 const MOST_TIME: Duration = Duration::from_secs(10);
 
-/// The case with part `i` replaced, as it is and sealed again.
-fn with_part(case: &Case, i: usize, part: Vec<u8>) -> [Case; 2] {
-    let mut plain = case.clone();
-    plain.bytes[i] = part;
-    let mut sealed = plain.clone();
-    seal(&mut sealed.bytes[i]);
-    [plain, sealed]
+struct Shrinker<F> {
+    differs: F,
+    end: Instant,
 }
 
-fn shorter(case: &Case, i: usize, still: &mut dyn FnMut(&Case) -> bool) -> Option<Case> {
-    let part = &case.bytes[i];
-    // Powers of two, so that lengths modulo 8 can be kept.
-    let lengths = (0..usize::BITS).rev().map(|bit| 1 << bit).filter(|&length| length <= part.len());
-    for length in lengths {
-        for at in (0..=part.len() - length).step_by(length.div_ceil(2)) {
-            let mut less = part.clone();
-            less.drain(at..at + length);
-            if let Some(found) = with_part(case, i, less).into_iter().find(|c| still(c)) {
-                return Some(found);
+impl<F: Fn(&Case) -> bool> Shrinker<F> {
+    fn over(&self) -> bool {
+        Instant::now() >= self.end
+    }
+
+    /// The case with part `i` replaced, as it is or sealed again, if it still differs.
+    fn with_part(&self, case: &Case, i: usize, part: Vec<u8>, may_seal: bool) -> Option<Case> {
+        let mut smaller = case.clone();
+        smaller.bytes[i] = part;
+        if (self.differs)(&smaller) {
+            return Some(smaller);
+        }
+        seal(&mut smaller.bytes[i]);
+        (may_seal && (self.differs)(&smaller)).then_some(smaller)
+    }
+
+    fn shorter(&self, case: &Case, i: usize) -> Option<Case> {
+        let part = &case.bytes[i];
+        // Powers of two, so that lengths modulo 8 can be kept.
+        let lengths = (0..usize::BITS).rev().map(|bit| 1 << bit).filter(|&length| length <= part.len());
+        for length in lengths {
+            for at in (0..=part.len() - length).step_by(length.div_ceil(2)) {
+                if self.over() {
+                    return None;
+                }
+                let less = [&part[..at], &part[at + length..]].concat();
+                if let Some(found) = self.with_part(case, i, less, true) {
+                    return Some(found);
+                }
             }
         }
+        None
     }
-    None
-}
 
-fn plainer(case: &Case, i: usize, still: &mut dyn FnMut(&Case) -> bool) -> Option<Case> {
-    let part = &case.bytes[i];
-    for at in (0..part.len()).filter(|&at| part[at] != 0) {
-        let mut less = part.clone();
-        less[at] = 0;
-        let [plain, sealed] = with_part(case, i, less);
-        // Sealing turns other bytes nonzero again; taken only where that ends.
-        let sums = |c: &Case| c.bytes[i].iter().filter(|&&byte| byte != 0).count();
-        let fewer = sums(&sealed) < sums(case);
-        if still(&plain) {
-            return Some(plain);
-        }
-        if fewer && still(&sealed) {
-            return Some(sealed);
-        }
+    /// One byte set to 0. Sealing makes other bytes nonzero, so it is tried only before the last four.
+    fn plainer(&self, case: &Case, i: usize) -> Option<Case> {
+        let part = &case.bytes[i];
+        let nonzero = (0..part.len()).filter(|&at| part[at] != 0);
+        nonzero.take_while(|_| !self.over()).find_map(|at| {
+            let mut less = part.clone();
+            less[at] = 0;
+            self.with_part(case, i, less, at + 4 < part.len())
+        })
     }
-    None
-}
 
-fn lesser(case: &Case, i: usize, still: &mut dyn FnMut(&Case) -> bool) -> Option<Case> {
-    let number = case.numbers[i];
-    let tries = [0, number / 2, number.saturating_sub(1)];
-    tries.into_iter().filter(|&less| less < number).find_map(|less| {
-        let mut smaller = case.clone();
-        smaller.numbers[i] = less;
-        still(&smaller).then_some(smaller)
-    })
-}
+    fn lesser(&self, case: &Case, i: usize) -> Option<Case> {
+        let number = case.numbers[i];
+        let tries = [0, number / 2, number.saturating_sub(1)];
+        tries.into_iter().filter(|&less| less < number && !self.over()).find_map(|less| {
+            let mut smaller = case.clone();
+            smaller.numbers[i] = less;
+            (self.differs)(&smaller).then_some(smaller)
+        })
+    }
 
-fn step(case: &Case, still: &mut dyn FnMut(&Case) -> bool) -> Option<Case> {
-    let parts = 0..case.bytes.len();
-    parts
-        .clone()
-        .find_map(|i| shorter(case, i, still))
-        .or_else(|| (0..case.numbers.len()).find_map(|i| lesser(case, i, still)))
-        .or_else(|| parts.clone().find_map(|i| plainer(case, i, still)))
+    fn step(&self, case: &Case) -> Option<Case> {
+        let parts = 0..case.bytes.len();
+        let shorter = parts.clone().find_map(|i| self.shorter(case, i));
+        shorter
+            .or_else(|| (0..case.numbers.len()).find_map(|i| self.lesser(case, i)))
+            .or_else(|| parts.clone().find_map(|i| self.plainer(case, i)))
+    }
 }
 
 pub fn shrink(case: Case, differs: impl Fn(&Case) -> bool) -> Case {
-    let start = Instant::now();
-    let mut still = |c: &Case| start.elapsed() < MOST_TIME && differs(c);
+    let shrinker = Shrinker { differs, end: Instant::now() + MOST_TIME };
     let mut best = case;
-    while let Some(smaller) = step(&best, &mut still) {
+    while let Some(smaller) = shrinker.step(&best) {
         best = smaller;
     }
     best

@@ -2,26 +2,13 @@
 use crate::Layer;
 use crate::buffer::Buffer;
 use crate::case::{Answer, Case};
-use crate::forge::{Input, forge};
+use crate::forge::{self, Input};
 use crate::numbers::NO_NUMBER;
+use crate::ours;
 use crate::reading;
 use crate::rng::Rng;
 use crate::run::Run;
 use oracle::compact::{Record, forged};
-
-unsafe extern "C" {
-    fn kiban_span(
-        section: *const u8,
-        section_len: usize,
-        record: *const [u64; 16],
-        first: u64,
-        count: u64,
-        limit: u64,
-        pairs: *mut u64,
-        pairs_len: usize,
-        found: *mut u64,
-    ) -> u64;
-}
 
 pub const LAYER: Layer = Layer { name: "spans", kinds: &["span"], ask, fixed, round };
 
@@ -34,34 +21,22 @@ fn ask(case: &Case) -> Option<(Answer, Answer)> {
     if case.numbers[19] > 1 << 20 {
         return None;
     }
-    Some((ours(case, &record), expected(case, &record)))
+    Some((our_span(case, &record), rust_span(case, &record)))
 }
 
-fn ours(case: &Case, record: &[u64; 16]) -> Answer {
+fn our_span(case: &Case, record: &[u64; 16]) -> Answer {
     let section = Buffer::input(&case.bytes[0], 1);
     let [first, count, limit, places] = case.numbers[16..20] else { unreachable!("four numbers") };
     // One place more than is lent: it must stay.
     let mut pairs = vec![BEFORE; places as usize + 1];
     let mut found = BEFORE;
-    // SAFETY: the pointers and lengths are those of live buffers.
-    let number = unsafe {
-        kiban_span(
-            section.as_ptr(),
-            section.len(),
-            record,
-            first,
-            count,
-            limit,
-            pairs.as_mut_ptr(),
-            places as usize,
-            &mut found,
-        )
-    };
+    let lent = &mut pairs[..places as usize];
+    let number = ours::span(section.part(), record, [first, count, limit], lent, &mut found);
     pairs.push(found);
     Answer { number, ..Answer::words(pairs) }
 }
 
-fn expected(case: &Case, record: &[u64; 16]) -> Answer {
+fn rust_span(case: &Case, record: &[u64; 16]) -> Answer {
     let places = case.numbers[19] as usize;
     let mut words = vec![BEFORE; places + 2];
     match pairs(case, record) {
@@ -89,8 +64,8 @@ fn pairs(case: &Case, record: &[u64; 16]) -> Result<Vec<u64>, u64> {
         return Err(29);
     }
     let span = reading::span(section, &record, first, count, limit)?;
-    let comparable = span.sliced.iter().all(|&slice| inside(slice, data))
-        && !(limit == u64::MAX && span.without_versions);
+    let comparable =
+        span.sliced.iter().all(|&slice| inside(slice, data)) && !(limit == u64::MAX && span.without_versions);
     if comparable && rust(section, data, &record, first, count, limit) != Ok(span.pairs.clone()) {
         return Err(NO_NUMBER);
     }
@@ -120,7 +95,7 @@ fn record(section: &[u8]) -> Option<[u64; 16]> {
 
 fn fixed(run: &mut Run) {
     for prefix in [0, 1] {
-        let worked = crate::forge::worked(prefix);
+        let worked = forge::worked(prefix);
         let own = record(&worked.section).expect("a header");
         for first in [0, 1, 2, 3, u64::MAX] {
             for count in [0, 1, 2, 3, u64::MAX] {
@@ -131,7 +106,7 @@ fn fixed(run: &mut Run) {
                 }
             }
         }
-        for neighbour in crate::forge::neighbours(&worked) {
+        for neighbour in forge::neighbours(&worked) {
             if let Some(own) = record(&neighbour.section) {
                 for limit in [4, u64::MAX] {
                     span(run, &neighbour, &own, [0, 2, limit, 4]);
@@ -143,7 +118,7 @@ fn fixed(run: &mut Run) {
 }
 
 fn round(run: &mut Run, rng: &mut Rng) {
-    for input in forge(rng) {
+    for input in forge::forge(rng) {
         let Some(own) = record(&input.section) else { continue };
         for _ in 0..3 {
             let first = rng.next() % (own[2] + 2);

@@ -3,13 +3,10 @@ use crate::blocks::seal;
 use crate::buffer::Buffer;
 use crate::case::{Answer, Case};
 use crate::numbers::number;
+use crate::ours;
 use crate::rng::Rng;
 use crate::run::Run;
 use crate::{Layer, tiny};
-
-unsafe extern "C" {
-    fn probe_trailer(section: *const u8, length: usize) -> u64;
-}
 
 pub const LAYER: Layer = Layer { name: "trailer", kinds: &["trailer"], ask, fixed, round };
 
@@ -17,8 +14,7 @@ pub const LAYER: Layer = Layer { name: "trailer", kinds: &["trailer"], ask, fixe
 fn ask(case: &Case) -> Option<(Answer, Answer)> {
     let section = case.bytes[0].as_slice();
     let lent = Buffer::input(section, case.numbers[0]);
-    // SAFETY: the pointer and length are those of a live buffer.
-    let ours = unsafe { probe_trailer(lent.as_ptr(), lent.len()) };
+    let ours = ours::trailer(lent.part());
     let expected = oracle::block::trailer(section).map_or_else(|error| number(&error), |()| 0);
     Some((Answer::refused(ours), Answer::refused(expected)))
 }

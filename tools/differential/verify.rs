@@ -4,13 +4,10 @@ use crate::buffer::Buffer;
 use crate::case::{Answer, Case};
 use crate::damage::{damage, put32};
 use crate::numbers::number;
+use crate::ours;
 use crate::rng::Rng;
 use crate::run::Run;
 use crate::{Layer, samples};
-
-unsafe extern "C" {
-    fn probe_verify(raw: *const u8, length: usize, meta: *mut [u64; 3]) -> u64;
-}
 
 pub const LAYER: Layer = Layer { name: "verify", kinds: &["verify"], ask, fixed, round };
 
@@ -22,8 +19,7 @@ fn ask(case: &Case) -> Option<(Answer, Answer)> {
     let raw = case.bytes[0].as_slice();
     let lent = Buffer::input(raw, case.numbers[0]);
     let mut meta = BEFORE;
-    // SAFETY: the pointers and the length are those of live buffers.
-    let answer = unsafe { probe_verify(lent.as_ptr(), lent.len(), &mut meta) };
+    let answer = ours::verify(lent.part(), &mut meta);
     let ours = Answer { number: answer, ..Answer::words(meta.to_vec()) };
     let expected = match oracle::block::verify(raw) {
         Ok(meta) => Answer::words(meta.map(|n| n as u64).to_vec()),

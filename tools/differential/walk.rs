@@ -1,25 +1,14 @@
 //! The walk of a block's records: question 13, and 15 for the room of the key.
+use crate::blocks::{self, Entry};
 use crate::buffer::Buffer;
 use crate::case::{Answer, Case};
 use crate::damage::damage;
-use crate::numbers::number;
+use crate::numbers::{NO_NUMBER, number};
+use crate::ours;
 use crate::rng::Rng;
 use crate::run::Run;
 use crate::{Layer, samples};
 use oracle::block::{self, Meta};
-
-unsafe extern "C" {
-    fn probe_record(
-        raw: *const u8,
-        length: usize,
-        entries_end: u64,
-        pos: u64,
-        key_len: u64,
-        scratch: *mut u8,
-        room: usize,
-        record: *mut [u64; 6],
-    ) -> u64;
-}
 
 pub const LAYER: Layer = Layer { name: "walk", kinds: &["walk", "record"], ask, fixed, round };
 
@@ -37,27 +26,20 @@ fn ask(case: &Case) -> Option<(Answer, Answer)> {
     }
 }
 
-/// One call: its number, and the record and scratch as left.
-fn call(raw: &Buffer, meta: Meta, pos: u64, key_len: u64, scratch: &mut Buffer, record: &mut Record) -> u64 {
-    let (at, room) = (scratch.as_mut_ptr(), scratch.len());
-    // SAFETY: the pointers and lengths are those of live buffers.
-    unsafe { probe_record(raw.as_ptr(), raw.len(), meta[0] as u64, pos, key_len, at, room, record) }
-}
-
 /// Numbers: room and shift. The answer holds each record, its key, and the record as left at the end.
 fn our_walk(case: &Case, meta: Meta) -> Answer {
     let raw = Buffer::input(&case.bytes[0], case.numbers[1]);
     let mut scratch = Buffer::new(case.numbers[0] as usize, b"", case.numbers[1]);
-    let (mut record, mut pos, mut key_len) = (BEFORE, 0, 0);
+    let (mut record, mut pos, mut key_len, end) = (BEFORE, 0, 0, meta[0] as u64);
     let mut answer = Answer::default();
-    while answer.number == 0 && pos < meta[0] as u64 {
-        answer.number = call(&raw, meta, pos, key_len, &mut scratch, &mut record);
+    while answer.number == 0 && pos < end {
+        answer.number = ours::step(raw.part(), end, pos, key_len, scratch.part_mut(), &mut record);
         if answer.number == 0 {
-            key_len = record[2].min(scratch.len() as u64);
+            key_len = record[2].min(case.numbers[0]);
             answer.words.extend(record);
             answer.bytes.extend(&scratch.part()[..key_len as usize]);
             // A step that does not go on would never end.
-            answer.number = if record[5] <= pos { crate::numbers::NO_NUMBER } else { 0 };
+            answer.number = if record[5] <= pos { NO_NUMBER } else { 0 };
             pos = record[5];
         }
     }
@@ -91,10 +73,11 @@ fn our_step(case: &Case, meta: Meta) -> Answer {
     let (raw, key) = (Buffer::input(&case.bytes[0], case.numbers[2]), &case.bytes[1]);
     let mut scratch = Buffer::new(case.numbers[1] as usize, key, case.numbers[2]);
     let mut record = BEFORE;
-    let number = call(&raw, meta, case.numbers[0], key.len() as u64, &mut scratch, &mut record);
+    let (end, pos, key_len) = (meta[0] as u64, case.numbers[0], key.len() as u64);
+    let number = ours::step(raw.part(), end, pos, key_len, scratch.part_mut(), &mut record);
     let mut answer = Answer { number, ..Answer::words(record.to_vec()) };
     if number == 0 {
-        let key_len = record[2].min(scratch.len() as u64) as usize;
+        let key_len = record[2].min(case.numbers[1]) as usize;
         answer.bytes.extend(&scratch.part()[..key_len]);
     }
     scratch.guarded(answer)
@@ -129,20 +112,15 @@ fn walks(run: &mut Run, raw: &[u8], rooms: &[usize], shift: u64) {
 
 /// Blocks of one and two entries with each header byte changed to several values, sealed again.
 fn fixed(run: &mut Run) {
-    let entry = |key: &[u8], value: &[u8], kind| crate::blocks::Entry {
-        kind,
-        key: key.to_vec(),
-        value: value.to_vec(),
-        sequence: 5,
-    };
-    let one = crate::blocks::block(&[entry(b"", b"", 1)], 1).raw;
-    let two = crate::blocks::block(&[entry(b"ab", b"x", 1), entry(b"abc", b"", 2)], 16).raw;
+    let entry = |key: &[u8], value: &[u8], kind| Entry { kind, key: key.to_vec(), value: value.to_vec(), sequence: 5 };
+    let one = blocks::block(&[entry(b"", b"", 1)], 1).raw;
+    let two = blocks::block(&[entry(b"ab", b"x", 1), entry(b"abc", b"", 2)], 16).raw;
     for raw in [&one, &two] {
         for at in 0..raw.len() - 4 {
             for value in 0..=255 {
                 let mut changed = raw.clone();
                 changed[at] = value;
-                crate::blocks::seal(&mut changed);
+                blocks::seal(&mut changed);
                 walks(run, &changed, &[0, 1, 2, 3, 300], 0);
             }
         }

@@ -1,20 +1,15 @@
 //! The width in bytes of a greatest number.
 use crate::Layer;
 use crate::case::{Answer, Case};
+use crate::ours;
 use crate::rng::Rng;
 use crate::run::Run;
-
-unsafe extern "C" {
-    fn probe_width(max: u64) -> u64;
-}
 
 pub const LAYER: Layer = Layer { name: "width", kinds: &["width"], ask, fixed, round };
 
 fn ask(case: &Case) -> Option<(Answer, Answer)> {
     let max = case.numbers[0];
-    // SAFETY: no pointer crosses.
-    let ours = unsafe { probe_width(max) };
-    Some((Answer::one(ours), Answer::one(oracle::point::width(max) as u64)))
+    Some((Answer::one(ours::probe_width(max)), Answer::one(oracle::point::width(max) as u64)))
 }
 
 fn fixed(run: &mut Run) {

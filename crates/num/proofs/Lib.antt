@@ -1,4 +1,5 @@
 pub mod Choice
+pub mod Copy
 pub mod Lists
 pub mod Number
 pub mod Order

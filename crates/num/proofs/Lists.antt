@@ -105,6 +105,9 @@ module _ {ℓ} {A : Type ℓ} where
 
 -- ---- lists of bytes
 
+pub bytes-nil : Bytes []
+bytes-nil k = lit< tt
+
 pub bytes-take : (n : ℕ) (s : List ℕ) → Bytes s → Bytes (take n s)
 bytes-take zero s h k = lit< tt
 bytes-take (suc n) [] h k = lit< tt

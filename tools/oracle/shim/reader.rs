@@ -4,4 +4,3 @@ use crate::crc32;
 
 pub struct Iter;
 pub struct SstTable;
-

@@ -24,11 +24,7 @@ pub struct Header {
 }
 
 fn meta(m: Meta) -> BlockMeta {
-    BlockMeta {
-        entries_end: m[0],
-        restart_start: m[1],
-        num_restarts: m[2],
-    }
+    BlockMeta { entries_end: m[0], restart_start: m[1], num_restarts: m[2] }
 }
 
 pub fn verify(raw: &[u8]) -> Result<Meta, String> {
@@ -43,13 +39,7 @@ pub fn verify_plain(raw: &[u8]) -> Result<BlockMeta, SstError> {
 
 pub fn header(raw: &[u8], m: Meta, pos: usize) -> Result<Header, String> {
     let (kind, sequence, shared, suffix, length) = caught(|| header_at(raw, &meta(m), pos))?;
-    Ok(Header {
-        kind: kind.to_u8(),
-        sequence,
-        shared,
-        suffix,
-        length,
-    })
+    Ok(Header { kind: kind.to_u8(), sequence, shared, suffix, length })
 }
 
 /// The records that the walk met, and how it ended.
@@ -57,13 +47,7 @@ pub fn walk(raw: &[u8], m: Meta) -> (Vec<Record>, Result<(), String>) {
     let mut records = Vec::new();
     let end = caught(|| {
         visit_records(raw, &meta(m), &mut Vec::new(), |kind, sequence, key, place, length| {
-            records.push(Record {
-                kind: kind.to_u8(),
-                sequence,
-                key: key.to_vec(),
-                place,
-                length,
-            });
+            records.push(Record { kind: kind.to_u8(), sequence, key: key.to_vec(), place, length });
             Ok(())
         })
     });

@@ -36,24 +36,15 @@ pub fn open_shared(section: ArcBlock, data: ArcBlock, list: &[(u64, u64)]) -> Re
 }
 
 /// Packed opening; `None` where a pilot is too large.
-pub fn open_packed(
-    section: &[u8],
-    data: &[u8],
-    list: &[(u64, u64)],
-) -> Result<Option<Index>, String> {
+pub fn open_packed(section: &[u8], data: &[u8], list: &[(u64, u64)]) -> Result<Option<Index>, String> {
     open_packed_shared(section.into(), data, list)
 }
 
 /// Packed opening of a section that is shared already, for timing.
-pub fn open_packed_shared(
-    section: ArcBlock,
-    data: &[u8],
-    list: &[(u64, u64)],
-) -> Result<Option<Index>, String> {
+pub fn open_packed_shared(section: ArcBlock, data: &[u8], list: &[(u64, u64)]) -> Result<Option<Index>, String> {
     let pairs = list.iter().copied();
     let read = |offset, length| Ok(Cow::Borrowed(&data[offset..offset + length]));
-    let opened =
-        caught(|| CompactIndex::decode_locators(section, data.len(), ResidentReservation, pairs, read))?;
+    let opened = caught(|| CompactIndex::decode_locators(section, data.len(), ResidentReservation, pairs, read))?;
     Ok(opened.map(Index))
 }
 
@@ -109,9 +100,7 @@ impl Index {
     /// Offset, length, entries_end, restart_start, num_restarts of each block; none when packed.
     pub fn blocks(&self) -> Vec<[usize; 5]> {
         let blocks = self.0.blocks.iter();
-        blocks
-            .map(|&(offset, len, m)| [offset, len, m.entries_end, m.restart_start, m.num_restarts])
-            .collect()
+        blocks.map(|&(offset, len, m)| [offset, len, m.entries_end, m.restart_start, m.num_restarts]).collect()
     }
 
     /// The greatest sequence is no limit.

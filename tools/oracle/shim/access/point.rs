@@ -50,9 +50,8 @@ pub struct Totals {
     pub last_offset: u64,
 }
 
-/// The size of a section by totals alone.
-pub fn section_len(totals: &Totals, prefix: usize) -> Result<usize, String> {
-    let builder = PointBuilder {
+fn with_totals(totals: &Totals, prefix: usize) -> PointBuilder {
+    PointBuilder {
         heads: vec![0; totals.keys],
         suffix_bytes: totals.suffix_bytes,
         versions: totals.versions,
@@ -63,8 +62,12 @@ pub fn section_len(totals: &Totals, prefix: usize) -> Result<usize, String> {
         max_versions: totals.most_versions,
         last_value_offset: totals.last_offset,
         ..PointBuilder::with_scan_prefix_len(prefix)
-    };
-    caught_plain(|| builder.approximate_size())
+    }
+}
+
+/// The size of a section by totals alone.
+pub fn section_len(totals: &Totals, prefix: usize) -> Result<usize, String> {
+    caught_plain(|| with_totals(totals, prefix).approximate_size())
 }
 
 pub fn width(max: u64) -> usize {
@@ -76,6 +79,11 @@ pub struct Builder(PointBuilder);
 impl Builder {
     pub fn new(prefix: usize) -> Self {
         Builder(PointBuilder::with_scan_prefix_len(prefix))
+    }
+
+    /// A builder that holds these bytes, beginnings of keys, CRCs and totals.
+    pub fn restored(arena: Vec<u8>, heads: Vec<usize>, checksums: Vec<u32>, totals: &Totals, prefix: usize) -> Self {
+        Builder(PointBuilder { arena, heads, checksums, ..with_totals(totals, prefix) })
     }
 
     /// `add`, then `set_value_offset` on that entry.

@@ -40,18 +40,20 @@ fn built(entries: &[Entry], offsets: &[u64], prefix: usize, stable: bool) -> Opt
 
 /// Document 01's worked store.
 pub fn worked(prefix: usize) -> Input {
-    let entry = |kind, key: &[u8], value: &[u8], sequence| Entry {
-        kind,
-        key: key.to_vec(),
-        value: value.to_vec(),
-        sequence,
-    };
+    let entry =
+        |kind, key: &[u8], value: &[u8], sequence| Entry { kind, key: key.to_vec(), value: value.to_vec(), sequence };
     let entries = [entry(1, b"ab", b"xyz", 7), entry(2, b"ab", b"", 3), entry(1, b"ac", b"", 5)];
     let block = block(&entries, 16);
     let offsets: Vec<u64> = block.places.iter().map(|&place| place as u64).collect();
     let section = built(&entries, &offsets, prefix, true).expect("the worked section");
     let list = vec![0, block.raw.len() as u64];
     Input { section, data: block.raw, list, longest_key: 2 }
+}
+
+/// A store of one key, whose pilot names its slot.
+pub fn single() -> Input {
+    let entry = Entry { kind: 1, key: b"k".to_vec(), value: b"v".to_vec(), sequence: 9 };
+    build(&mut Rng::part(1, "single", 0), vec![entry], None)
 }
 
 /// Entries with a form, or in the natural one.
@@ -85,7 +87,8 @@ fn changed(bytes: &[u8]) -> Vec<Vec<u8>> {
 /// A small store with one byte, one number of the list or one length changed.
 pub fn neighbours(input: &Input) -> Vec<Input> {
     let sections = changed(&input.section).into_iter().map(|section| Input { section, ..input.clone() });
-    let data = changed(&input.data).into_iter().map(|data| Input { data, ..input.clone() });
+    let longer = [[&input.data[..], &[0]].concat(), input.data.repeat(2)];
+    let data = changed(&input.data).into_iter().chain(longer).map(|data| Input { data, ..input.clone() });
     let end = input.data.len() as u64;
     let lists = [
         vec![],
@@ -106,6 +109,87 @@ pub fn neighbours(input: &Input) -> Vec<Input> {
     ];
     let lists = lists.into_iter().map(|list| Input { list, ..input.clone() });
     sections.chain(data).chain(lists).collect()
+}
+
+/// A store of one entry whose sequence sum wraps, and one whose anchor address does: a release build
+/// of the Rust finds both keys.
+pub fn wrapping() -> [(Input, Vec<u8>); 2] {
+    let entry = |key: &[u8]| Entry { kind: 1, key: key.to_vec(), value: Vec::new(), sequence: 0 };
+    let form = |address, least| Form { widths: [address, 1, 1, 1, 2], checksums: false, prefix: 0, least };
+    let rng = &mut Rng::part(1, "wrapping", 0);
+    let sequence = build(rng, vec![entry(b"")], Some(form(4, u64::MAX)));
+    let mut address = build(rng, vec![entry(b"K")], Some(form(8, 0)));
+    // The anchor leads back to the section's first byte, and all of the key is shared.
+    let arena = 64 + 4 + 10;
+    address.section[arena..arena + 8].copy_from_slice(&(arena as u64).wrapping_neg().to_le_bytes());
+    address.section[arena + 8..arena + 10].copy_from_slice(&[1, 0]);
+    seal(&mut address.section);
+    [(sequence, Vec::new()), (address, b"K".to_vec())]
+}
+
+/// The choices of a section without keys' records: n, address width, bytes in the arena, flags, and of
+/// the scan part what is added to its length, its prefix length, stride and prefix count.
+#[derive(Clone, Copy)]
+struct Bare {
+    n: u32,
+    address: u32,
+    arena: usize,
+    flags: u32,
+    longer: u64,
+    prefix: u32,
+    stride: u32,
+    prefixes: u64,
+}
+
+impl Bare {
+    fn input(self) -> Input {
+        let (n, b, address) = (self.n as usize, self.n.div_ceil(2), self.address as usize);
+        let start = 64 + 4 * b as usize + n * (address + 2);
+        let mut section = b"KIBANPH3\x07\0\0\0\0\0\0\0".to_vec();
+        section.extend([self.n, b].iter().flat_map(|number| number.to_le_bytes()));
+        section.extend((start as u64).to_le_bytes());
+        let widths = [self.address, 1, 1, 1, 2, self.flags];
+        section.extend(widths.iter().flat_map(|number| number.to_le_bytes()));
+        section.resize(start + self.arena, 0);
+        if self.flags & 2 != 0 {
+            section.extend(b"KIBANSC1");
+            section.extend([self.prefix, self.stride].iter().flat_map(|number| number.to_le_bytes()));
+            section.extend(self.prefixes.to_le_bytes());
+            section.resize(section.len() + n * address, 0);
+            section.extend(((24 + n * address) as u64).wrapping_add(self.longer).to_le_bytes());
+        }
+        section.extend([0; 5]);
+        seal(&mut section);
+        Input { section, data: Vec::new(), list: Vec::new(), longest_key: 0 }
+    }
+}
+
+/// Sections at the edges of questions 3 to 7, all else as simple as can be.
+pub fn bare() -> Vec<Input> {
+    let mut all = Vec::new();
+    let plain = Bare { n: 1, address: 4, arena: 1, flags: 1, longer: 0, prefix: 1, stride: 32, prefixes: 1 };
+    for (n, address, arena) in [(1, 4, 0), (1, 4, 1), (1, 8, 0), (2, 8, 1), (3, 4, 0), (3, 4, 9), (0, 4, 9)] {
+        for flags in 0..5 {
+            all.push(Bare { n, address, arena, flags, ..plain });
+        }
+        let scan = Bare { n, address, arena, flags: 3, ..plain };
+        for longer in [1, 8, u64::MAX, 1 << 32, 1 << 63] {
+            all.push(Bare { longer, ..scan });
+        }
+        for prefix in [0, 24, 25, u32::MAX] {
+            all.push(Bare { prefix, ..scan });
+        }
+        for stride in [0, 31, 33] {
+            all.push(Bare { stride, ..scan });
+        }
+        for prefixes in [0, n.into(), u64::from(n) + 1, u64::MAX] {
+            all.push(Bare { prefixes, ..scan });
+        }
+    }
+    for n in [(1 << 23) - 1, 1 << 23] {
+        all.push(Bare { n, ..plain });
+    }
+    all.into_iter().map(Bare::input).collect()
 }
 
 /// Another number for a field: near the old one, at an edge, random, or that of another field.
@@ -131,6 +215,15 @@ fn edit(bytes: &mut [u8], fields: &[Field], rng: &mut Rng) {
         _ => rng.wide(),
     };
     bytes[at..at + width].copy_from_slice(&new.to_le_bytes()[..width]);
+}
+
+/// Another prefix length or prefix count that question 6 may let pass.
+fn edit_scan(section: &mut [u8], rng: &mut Rng) {
+    let Some(at) = section.windows(8).rposition(|part| part == b"KIBANSC1") else { return };
+    let place = at + rng.pick(&[8, 16]);
+    if place < section.len() {
+        section[place] = rng.between(1, 24) as u8;
+    }
 }
 
 fn edit_list(list: &mut Vec<u64>, rng: &mut Rng) {
@@ -207,6 +300,7 @@ impl Whole {
         let seals = !rng.one_in(8);
         for _ in 0..rng.between(1, 2) {
             match rng.below(8) {
+                0 if rng.one_in(4) => edit_scan(&mut input.section, rng),
                 0..4 => edit(&mut input.section, &self.section.fields, rng),
                 4 | 5 => edit(&mut input.data, &self.blocks.fields, rng),
                 6 => edit_list(&mut input.list, rng),

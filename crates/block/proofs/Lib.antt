@@ -1,0 +1,5 @@
+pub mod Sound
+pub mod Header
+pub mod Step
+pub mod Walk
+pub mod Examples

@@ -1,0 +1,4 @@
+pub mod Verify
+pub mod Header
+pub mod Record
+pub mod Walk
