@@ -152,6 +152,10 @@ fn main() {
     let mut run = Run::default();
     let (here, absent): (Vec<_>, Vec<_>) = layers().into_iter().partition(Result::is_ok);
     let layers: Vec<Layer> = here.into_iter().flatten().collect();
+    if layers.is_empty() {
+        eprintln!("the archive has no function that can be compared");
+        exit(2);
+    }
     if let Some(text) = &options.case {
         return one_case(&mut run, &layers, text);
     }

@@ -22,8 +22,9 @@ fn open_case(input: &Input, scratch: usize, room: usize) -> (Vec<u8>, [u64; 2]) 
 /// From many stores the smallest of each answer, then the second smallest, and so on.
 pub fn open(rng: &mut Rng) -> List {
     let mut pool: BTreeMap<[u64; 2], Vec<Vec<u8>>> = BTreeMap::new();
-    let inputs: Vec<Input> = (0..400).flat_map(|_| forge(rng)).collect();
-    for input in inputs.iter().filter(|input| input.section.len() + input.data.len() < 400) {
+    let inputs: Vec<Input> = (0..1500).flat_map(|_| forge(rng)).collect();
+    let small = |input: &&Input| input.section.len() + input.data.len() < 400 && input.longest_key <= 32;
+    for input in inputs.iter().filter(small) {
         let scratch = [2 * input.longest_key, 64].map(|scratch| scratch - scratch.min(rng.below(2)));
         let less = if rng.one_in(3) { input.section.len() / 8 } else { 0 };
         let (case, answers) = open_case(input, scratch[rng.below(2)], input.section.len() - less);
@@ -57,9 +58,11 @@ fn lookup_case(index: &Index, keys: &[Vec<u8>], rng: &mut Rng) -> Vec<u8> {
     let mut record = [0; 16];
     record[..13].copy_from_slice(&index.record());
     let mut section = index.bytes().to_vec();
-    if rng.one_in(2) {
-        let end = if rng.one_in(2) { record[4] as usize } else { section.len() };
-        section[rng.between(64, end - 1)] = rng.pick(&[0, 1, 255]);
+    match rng.below(5) {
+        0 => record[rng.below(16)] ^= 1,
+        1 => section[rng.between(64, record[4] as usize - 1)] = 255,
+        2 => section[rng.between(64, index.bytes().len() - 1)] ^= 1,
+        _ => {}
     }
     let limits = [u64::MAX, rng.wide()];
     let questions: Vec<Vec<u8>> =
