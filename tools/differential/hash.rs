@@ -39,7 +39,8 @@ fn ask(case: &Case) -> Option<(Answer, Answer)> {
         }
         _ => {
             let (h, pilot, n) = (number(0), number(1), number(2));
-            let expected = divided(n, point::slot(h, pilot as u32, n as usize));
+            // Question 4 gives n of at least 1; the probe answers 0 for every pilot of no slots.
+            let expected = if n == 0 { 0 } else { divided(n, point::slot(h, pilot as u32, n as usize)) };
             (ours::probe_slot(h, pilot, n), expected)
         }
     };

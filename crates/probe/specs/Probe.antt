@@ -3,7 +3,7 @@ use Prim.Native.Nat.{ℕ, _+_, _-_, _^_}
 use mathlib.Core.List.{List, [], _∷_}
 use mathlib.Core.Bool.{Bool}
 use lib.Dec.{eqb, leb, ltb}
-use lib.ListN.{length, take, drop}
+use lib.ListN.{length, getD, take, drop}
 use lib.Seq.{sets}
 use Rattle.num.specs.Choice.{if_then_else_, both, either}
 use Rattle.sstable.specs.Kind.{kindNumber}
@@ -15,6 +15,8 @@ use Rattle.block.specs.declared.Stepped.{Stepped}
 use Rattle.block.specs.declared.Stepped.the-variants.{Met, Stopped}
 use Rattle.block.specs.Record.{recordOf}
 use Rattle.point.specs.Hash.{bucketOf, positionOf, slotOf}
+use Rattle.encoding.specs.declared.Totals.{Totals}
+use Rattle.encoding.specs.Encoding.{encodingOf, sectionLenOf}
 
 -- 0 where the number of buckets is 0
 unfoldable pub bucketProbe : ℕ → ℕ → ℕ
@@ -58,7 +60,37 @@ keyWritten raw pos (Met r) before =
     then sets before (r .shared) (take (r .«key_len» - r .shared) (drop (pos + 21) raw))
     else before
 
+-- nine numbers as totals
+unfoldable pub totalsOf : List ℕ → Totals
+totalsOf n =
+    record {
+      keys = getD n 0 0;
+      versions = getD n 1 0;
+      «suffix_bytes» = getD n 2 0;
+      «min_seq» = getD n 3 0;
+      «max_seq» = getD n 4 0;
+      «max_key_len» = getD n 5 0;
+      «max_value_len» = getD n 6 0;
+      «max_versions» = getD n 7 0;
+      «last_value_offset» = getD n 8 0;
+    }
+
+-- size's question 37 of totals
+unfoldable pub bounded : Totals → Bool
+bounded t =
+    both (leb (t .keys) (2 ^ 30))
+    (both (leb (t .versions) (2 ^ 30))
+    (both (leb (t .«suffix_bytes») (2 ^ 30))
+    (both (leb (t .«max_key_len») (2 ^ 30))
+    (both (leb (t .«max_value_len») (2 ^ 30))
+    (both (leb (t .«max_versions») (2 ^ 30))
+    (leb (t .«min_seq») (t .«max_seq»)))))))
+
+-- the section's length, 0 for totals that size refuses
+unfoldable pub lengthProbe : Totals → ℕ → ℕ
+lengthProbe t prefix = if bounded t then sectionLenOf (encodingOf t) t prefix else 0
+
 -- names all definitions of this file: `unfolding probe-defs` opens them
 unfoldable pub probe-defs : ℕ
-unfolding bucketProbe noSlot positionProbe slotProbe metaWritten recordNumber stepProbe recordWritten keyWritten
+unfolding bucketProbe noSlot positionProbe slotProbe metaWritten recordNumber stepProbe recordWritten keyWritten totalsOf bounded lengthProbe
 probe-defs = 0

@@ -17,10 +17,18 @@ ghost use Rattle.probe.specs.Probe.{
   stepProbe,
   recordWritten,
   keyWritten,
+  totalsOf,
+  bounded,
+  lengthProbe,
 };
 use block::Stepped;
 use block::Verified;
+use encoding::Encoding;
+use encoding::Totals;
 use sstable::Trailer;
+
+// The bound of size's question 37.
+const MOST: u64 = 1 << 30;
 
 #[no_mangle]
 pub extern "C" fn probe_crc32_update(state: u32, data: &[u8]) -> u32
@@ -93,6 +101,51 @@ pub extern "C" fn probe_width(max: u64) -> u64
     ensures { λ r. ⌜ r ≡ widthOf max ⌝ }
 {
     encoding::width(max) as u64
+}
+
+fn bounded(t: Totals) -> bool
+    ensures { λ r. ⌜ r ≡ bounded t ⌝ }
+{
+    if t.keys > MOST {
+        return false;
+    }
+    if t.versions > MOST {
+        return false;
+    }
+    if t.suffix_bytes > MOST {
+        return false;
+    }
+    if t.max_key_len > MOST {
+        return false;
+    }
+    if t.max_value_len > MOST {
+        return false;
+    }
+    if t.max_versions > MOST {
+        return false;
+    }
+    t.min_seq <= t.max_seq
+}
+
+#[no_mangle]
+pub extern "C" fn probe_section_len(totals: &[u64; 9], prefix: u64) -> u64
+    ensures { λ r. ⌜ r ≡ lengthProbe (totalsOf (now (totals .entry))) prefix ⌝ }
+{
+    let t = Totals {
+        keys: totals[0],
+        versions: totals[1],
+        suffix_bytes: totals[2],
+        min_seq: totals[3],
+        max_seq: totals[4],
+        max_key_len: totals[5],
+        max_value_len: totals[6],
+        max_versions: totals[7],
+        last_value_offset: totals[8],
+    };
+    if !bounded(t) {
+        return 0;
+    }
+    Encoding::for_builder(t).section_len(t, prefix as usize) as u64
 }
 
 #[no_mangle]
