@@ -65,14 +65,15 @@ fn sample(rng: &mut Rng, count: usize) -> Vec<u8> {
     block(&entries, 16).raw
 }
 
-#[cfg(has = "probe_verify")]
+#[cfg(has = "probe_verify_lent")]
 pub fn verify(rng: &mut Rng) -> Vec<Row> {
+    let table = oracle::crc32::access::slices();
     let one = |count| {
         let raw = sample(rng, count);
-        let (lent, name) = (raw.clone(), format!("block verify, {} bytes", raw.len()));
+        let (lent, name) = (raw.clone(), format!("block verify, table lent, {} bytes", raw.len()));
         let ours = repeated(move || {
             let mut meta = [0; 3];
-            ours::verify(black_box(&lent), &mut meta) ^ meta[0]
+            ours::verify_lent(table, black_box(&lent), &mut meta) ^ meta[0]
         });
         let rust = repeated(move || oracle::block::verify_plain(black_box(&raw)).map_or(1, |m| m.entries_end as u64));
         row(name, 1, Some(1.2), ours, rust)

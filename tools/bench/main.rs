@@ -48,7 +48,7 @@ fn main() {
         "probe_crc32_lent": leaves::crc_lent;
         "kiban_crc32": leaves::crc;
         "probe_hash": leaves::hash;
-        "probe_verify": leaves::verify;
+        "probe_verify_lent": leaves::verify;
         "kiban_open": stores::opening;
         "kiban_open_packed": stores::opening_packed;
         "kiban_lookup": stores::lookups;

@@ -85,6 +85,7 @@ mod c {
         pub fn probe_crc32_lent(table: *const Table, data: *const u8, data_len: usize) -> u32;
         pub fn probe_hash(key: *const u8, key_len: usize, seed: u64) -> u64;
         pub fn probe_verify(raw: *const u8, raw_len: usize, meta: *mut [u64; 3]) -> u64;
+        pub fn probe_verify_lent(table: *const Table, raw: *const u8, raw_len: usize, meta: *mut [u64; 3]) -> u64;
         pub fn probe_record(
             raw: *const u8,
             raw_len: usize,
@@ -139,6 +140,12 @@ pub fn hash(key: &[u8], seed: u64) -> u64 {
 pub fn verify(raw: &[u8], meta: &mut [u64; 3]) -> u64 {
     // SAFETY: as above.
     unsafe { c::probe_verify(raw.as_ptr(), raw.len(), meta) }
+}
+
+#[inline(always)]
+pub fn verify_lent(table: &c::Table, raw: &[u8], meta: &mut [u64; 3]) -> u64 {
+    // SAFETY: as above.
+    unsafe { c::probe_verify_lent(table, raw.as_ptr(), raw.len(), meta) }
 }
 
 /// The step at `pos` of a block's walk, whose previous key is the first `key_len` bytes of the scratch.

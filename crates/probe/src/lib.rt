@@ -37,7 +37,7 @@ pub extern "C" fn probe_crc32_update(state: u32, data: &[u8]) -> u32
     crc32::update(state, data)
 }
 
-// The one probe that asks something: that the table is the right one.
+// This probe asks that the table is the right one.
 #[no_mangle]
 pub extern "C" fn probe_crc32_lent(table: &[[u32; 256]; 8], data: &[u8]) -> u32
     requires { ⌜ isTable (now table) ≡ true ⌝ }
@@ -161,11 +161,12 @@ pub extern "C" fn probe_trailer(section: &[u8]) -> u64
     }
 }
 
+// This one too asks that the table is the right one.
 #[no_mangle]
-pub extern "C" fn probe_verify(raw: &[u8], meta: &mut [u64; 3]) -> u64
+pub extern "C" fn probe_verify_lent(table: &[[u32; 256]; 8], raw: &[u8], meta: &mut [u64; 3]) -> u64
+    requires { ⌜ isTable (now table) ≡ true ⌝ }
     ensures { λ r. ⌜ (r ≡ verifiedNumber (verifyOf (now (raw .entry)))) × (now (meta .exit) ≡ metaWritten (verifyOf (now (raw .entry))) (now (meta .entry))) ⌝ }
 {
-    let table = &crc32::SLICES;
     let found = block::verify(table, raw);
     match found {
         Verified::Sound(m) => {
@@ -176,6 +177,14 @@ pub extern "C" fn probe_verify(raw: &[u8], meta: &mut [u64; 3]) -> u64
         }
         Verified::Unsound => 12,
     }
+}
+
+#[no_mangle]
+pub extern "C" fn probe_verify(raw: &[u8], meta: &mut [u64; 3]) -> u64
+    ensures { λ r. ⌜ (r ≡ verifiedNumber (verifyOf (now (raw .entry)))) × (now (meta .exit) ≡ metaWritten (verifyOf (now (raw .entry))) (now (meta .entry))) ⌝ }
+{
+    let table = &crc32::SLICES;
+    probe_verify_lent(table, raw, meta)
 }
 
 // One step of a block's walk: the previous key is the first `key_len` bytes of the scratch.
