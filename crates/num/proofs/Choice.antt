@@ -1,7 +1,8 @@
 -- What a test that came out true or false says.
 -- Assumes nothing.
 use mathlib.Core.Path.{_≡_, refl, sym, ap, _∙_, subst⁻¹}
-use mathlib.Core.Bool.{Bool, true, false}
+use mathlib.Core.Logic.{_⊎_, inl, inr}
+use mathlib.Core.Bool.{Bool, true, false, not}
 use mathlib.Core.List.{List, [], _∷_}
 use Prim.Native.Nat.{ℕ}
 use native.Mathlib.Omega.{arith}
@@ -60,3 +61,87 @@ oneOf-case P (x ∷ xs) n e h = go (eqb n x) refl e (λ q. oneOf-case P xs n q (
     go : (b : Bool) → eqb n x ≡ b → either b (oneOf xs n) ≡ true → (oneOf xs n ≡ true → P n) → P n
     go true p q rest = subst⁻¹ P (eqb-true n x p) (h .0)
     go false p q rest = rest q
+
+-- ---- chains of questions, as code with early returns walks them: each yes goes on, the first no is the answer
+
+pub both-no : (a b : Bool) → a ≡ false → false ≡ both a b
+unfolding both
+both-no a b e = sym (ap (λ (t : Bool). both t b) e)
+
+pub both-yes : (a b r : Bool) → a ≡ true → r ≡ b → r ≡ both a b
+unfolding both
+both-yes a b r e p = p ∙ sym (ap (λ (t : Bool). both t b) e)
+
+pub if-no : {A : Type 0} (t : Bool) (a b r : A) → t ≡ false → r ≡ b → r ≡ if_then_else_ t a b
+unfolding if_then_else_
+if-no t a b r e p = p ∙ sym (ap (λ (u : Bool). if_then_else_ u a b) e)
+
+pub if-yes : {A : Type 0} (t : Bool) (a b r : A) → t ≡ true → r ≡ a → r ≡ if_then_else_ t a b
+unfolding if_then_else_
+if-yes t a b r e p = p ∙ sym (ap (λ (u : Bool). if_then_else_ u a b) e)
+
+-- ---- choices and disjunctions that are decided
+
+-- a choice whose second arm is not the result came out at the first
+pub if-first : {A : Type 0} (b : Bool) (x y z : A) → (y ≡ z → ⊥) → (if b then x else y) ≡ z → (b ≡ true) × (x ≡ z)
+unfolding if_then_else_
+if-first true x y z n e = (refl, e)
+if-first false x y z n e = absurd (n e)
+
+-- under its test a choice is the first arm
+pub if-true : {A : Type 0} (b : Bool) (x y : A) → b ≡ true → (if b then x else y) ≡ x
+unfolding if_then_else_
+if-true b x y e = ap (λ (t : Bool). if t then x else y) e
+
+-- without it the second
+pub if-false : {A : Type 0} (b : Bool) (x y : A) → b ≡ false → (if b then x else y) ≡ y
+unfolding if_then_else_
+if-false b x y e = ap (λ (t : Bool). if t then x else y) e
+
+-- of two tests one of which holds the second holds if the first does not
+pub either-second : (a b : Bool) → either a b ≡ true → a ≡ false → b ≡ true
+unfolding either
+either-second true b e f = false-true (sym f)
+either-second false b e f = e
+
+-- and conversely one of them holds
+pub second-either : (a b : Bool) → (a ≡ false → b ≡ true) → either a b ≡ true
+unfolding either
+second-either true b h = refl
+second-either false b h = h refl
+
+-- ---- tests that are true in the same cases
+
+-- a test that cannot be true is false
+pub never-true : (a : Bool) → (a ≡ true → ⊥) → a ≡ false
+never-true true n = absurd (n refl)
+never-true false n = refl
+
+-- two tests that imply each other
+pub same-truth : (a b : Bool) → (a ≡ true → b ≡ true) → (b ≡ true → a ≡ true) → a ≡ b
+same-truth true b f g = sym (f refl)
+same-truth false true f g = g refl
+same-truth false false f g = refl
+
+-- one of two tests
+pub either-true : (a b : Bool) → either a b ≡ true → (a ≡ true) ⊎ (b ≡ true)
+unfolding either
+either-true true b e = inl refl
+either-true false b e = inr e
+
+pub true-either : (a b : Bool) → (a ≡ true) ⊎ (b ≡ true) → either a b ≡ true
+unfolding either
+true-either true b h = refl
+true-either false b (inl e) = false-true e
+true-either false b (inr e) = e
+
+-- a test that is asked where another is true
+pub asked-where : (a b : Bool) → either (not a) b ≡ true → a ≡ true → b ≡ true
+unfolding either
+asked-where true b e h = e
+asked-where false b e h = false-true h
+
+pub where-asked : (a b : Bool) → (a ≡ true → b ≡ true) → either (not a) b ≡ true
+unfolding either
+where-asked true b f = f refl
+where-asked false b f = refl

@@ -3,5 +3,7 @@ pub mod Copy
 pub mod Lists
 pub mod Number
 pub mod Order
+pub mod Parts
 pub mod Product
+pub mod Steps
 pub mod Xor

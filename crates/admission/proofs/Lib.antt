@@ -1,0 +1,7 @@
+pub mod Entries
+pub mod Block
+pub mod Covers
+pub mod Pairs
+pub mod Stored
+pub mod Opening
+pub mod Examples

@@ -1,0 +1,32 @@
+-- What a plain opening accepts, question by question, in plain terms (document 01, "Opening, question by question").
+use mathlib.Core.Path.{_≡_}
+use mathlib.Core.Bool.{true}
+use mathlib.Core.List.{List}
+use Prim.Native.Nat.{ℕ, _+_, _*_, _<_}
+use Rattle.num.specs.Number.{leAt}
+use Rattle.sstable.specs.Trailer.{SoundTrailer}
+use Rattle.point.specs.Hash.{isDirect, directSlot}
+use Rattle.encoding.specs.Encoding.{headerLen}
+use Rattle.header.specs.declared.Opened.{Opened}
+use Rattle.header.specs.Facts.{Header}
+use Rattle.opening.specs.Open.{storeOf}
+use Rattle.agreement.specs.Agrees.{Agrees}
+use Rattle.admission.specs.Blocks.{Covers, storeEntries}
+
+-- question 10: each direct pilot's slot is below n
+pub record PilotsInside (s : List ℕ) (o : Opened) : Type 0 where
+  pub direct : (k : ℕ) → k < o .buckets → isDirect (leAt s (headerLen + 4 * k) 4) ≡ true
+      → directSlot (leAt s (headerLen + 4 * k) 4) < o .count
+
+-- a section beside backing data and a block list, for a key scratch of a length, with the record that its header says
+pub record Admits (s «data» blocks : List ℕ) (scratch : ℕ) (o : Opened) : Type 0 where
+  -- questions 1 and 2
+  pub trailer : SoundTrailer s
+  -- questions 3 to 6
+  pub header : Header s o
+  -- question 10
+  pub pilots : PilotsInside s o
+  -- questions 11 to 13 of every pair, and 22 of the data
+  pub covers : Covers «data» blocks
+  -- questions 14 to 23 of every record, key and version
+  pub agrees : Agrees (storeOf s «data» scratch o) (storeEntries «data» blocks)

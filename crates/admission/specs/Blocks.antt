@@ -1,0 +1,58 @@
+-- Questions 11, 12, 13, and 22 of the data, in plain terms over the whole block list; and the records of all blocks as one list.
+use mathlib.Core.Path.{_≡_}
+use mathlib.Core.List.{List, [], _∷_, _++_, map}
+use Prim.Native.Nat.{ℕ, zero, suc, _+_, _*_, _/_, _%_, _<_, _≤_}
+use lib.ListN.{length, getD, take, drop}
+use Rattle.block.specs.declared.BlockMeta.{BlockMeta}
+use Rattle.block.specs.Verify.{SoundBlock}
+use Rattle.block.specs.Walk.{Entry, atEnd, recordsOf}
+use Rattle.opening.specs.Walk.{placed}
+
+-- the offset of pair i
+unfoldable pub offsetAt : List ℕ → ℕ → ℕ
+offsetAt blocks i = getD blocks (2 * i) 0
+
+-- its length
+unfoldable pub lengthAt : List ℕ → ℕ → ℕ
+lengthAt blocks i = getD blocks (2 * i + 1) 0
+
+-- where pair i ends
+unfoldable pub pairEnd : List ℕ → ℕ → ℕ
+pairEnd blocks i = offsetAt blocks i + lengthAt blocks i
+
+-- where pair i is to begin: the first at 0, each other where the one before ends
+unfoldable pub pairStart : List ℕ → ℕ → ℕ
+pairStart blocks zero = 0
+pairStart blocks (suc i) = pairEnd blocks i
+
+-- the bytes of pair i
+unfoldable pub blockAt : List ℕ → List ℕ → ℕ → List ℕ
+blockAt «data» blocks i = take (lengthAt blocks i) (drop (offsetAt blocks i) «data»)
+
+-- the block list passes questions 11 to 13, and its pairs cover the data
+pub record Covers («data» blocks : List ℕ) : Type 0 where
+  -- 11
+  pub even : length blocks % 2 ≡ 0
+  pub begins : (i : ℕ) → 2 * i + 1 < length blocks → offsetAt blocks i ≡ pairStart blocks i
+  pub finishes : (i : ℕ) → 2 * i + 1 < length blocks → pairEnd blocks i ≤ length «data»
+  -- 12
+  pub sound : (i : ℕ) → 2 * i + 1 < length blocks → (m : BlockMeta) × SoundBlock (blockAt «data» blocks i) m
+  -- 13
+  pub walked : (i : ℕ) → 2 * i + 1 < length blocks → recordsOf (blockAt «data» blocks i) .ended ≡ atEnd
+  -- 22: the last pair ends where the data do; without a pair they are empty
+  pub whole : pairStart blocks (length blocks / 2) ≡ length «data»
+
+-- the records of the block at an offset, their values' places counted in the data
+unfoldable pub blockEntries : List ℕ → ℕ → ℕ → List Entry
+blockEntries «data» offset len = map (placed offset) (recordsOf (take len (drop offset «data»)) .entries)
+
+-- the records of all blocks, one block behind the other: a store's versions
+unfoldable pub storeEntries : List ℕ → List ℕ → List Entry
+storeEntries «data» [] = []
+storeEntries «data» (offset ∷ []) = []
+storeEntries «data» (offset ∷ len ∷ pairs) = blockEntries «data» offset len ++ storeEntries «data» pairs
+
+-- names all definitions of this file: `unfolding block-defs` opens them
+unfoldable pub block-defs : ℕ
+unfolding offsetAt lengthAt pairEnd pairStart blockAt blockEntries storeEntries
+block-defs = 0

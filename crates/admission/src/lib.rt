@@ -1,0 +1,5 @@
+// Acceptance: definitions and theorems alone.
+
+pub fn nothing() -> u64 {
+    0
+}

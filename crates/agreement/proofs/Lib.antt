@@ -1,0 +1,6 @@
+pub mod Examples
+pub mod Indices
+pub mod Laws
+pub mod Progress
+pub mod Visit
+pub mod Walk

@@ -1,0 +1,4 @@
+pub mod Questions
+pub mod Reading
+pub mod Stored
+pub mod Visiting

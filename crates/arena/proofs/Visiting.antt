@@ -1,0 +1,191 @@
+-- What a visit that goes on says, and where it leaves the cursor.
+-- Assumes nothing.
+use mathlib.Core.Path.{_≡_, refl, sym, ap, _∙_, subst}
+use mathlib.Core.List.{List}
+use mathlib.Core.Bool.{Bool, true, false}
+use Prim.Native.Nat.{ℕ, suc, _+_, _*_, _-_, _<_, _≤_}
+use native.Mathlib.Nat.{suc-mul}
+use native.Mathlib.Omega.{arith}
+use lib.Dec.{eqb}
+use borrow.Author.Tests.{leb-true, ltb-true, eqb-true, eqb-false, eq-eqb, ne-eqb}
+use Rattle.num.specs.Choice.{if_then_else_}
+use Rattle.num.proofs.Choice.{both-true, if-case}
+use Rattle.point.specs.Hash.{hashOf}
+use Rattle.block.specs.Walk.{Entry}
+use Rattle.encoding.specs.Encoding.{keyHeaderOf, versionOf}
+use Rattle.header.specs.declared.Opened.{Opened}
+use Rattle.arena.specs.declared.Cursor.{Cursor}
+use Rattle.arena.specs.declared.KeyHeader.{KeyHeader}
+use Rattle.arena.specs.declared.Visited.{Visited}
+use Rattle.arena.specs.declared.Visited.the-variants.{Went, Refused}
+use Rattle.arena.specs.Inside.{Readable, Inside}
+use Rattle.arena.specs.Key.{keyHeaderAt, atAnchor, suffixAddress, anchorOf, anchorLenOf, keyInside, keyRises, scanNames, slotNames, prefixChanges, entered, keyFor, keyOf}
+use Rattle.arena.specs.Version.{versionAgrees, checksumAgrees, advanced, versionFor, visitOf}
+use Rattle.arena.proofs.Questions.{Fitting, fitting}
+
+-- question 16 before the key header is read
+pub inside-asked : (o : Opened) (end : ℕ) (c : Cursor) → keyInside o end c ≡ true → (c .groups < o .count) × (c .pos + keyHeaderOf (o .encoding) ≤ end)
+unfolding keyInside
+inside-asked o end c t = let b = both-true _ _ t in (ltb-true _ _ (b .0), leb-true _ _ (b .1))
+
+refused-went : {A : Type 0} (n : ℕ) (d : Cursor) → Refused n ≡ Went d → A
+refused-went n d e = absurd (let z : _≡_ {A = ℕ} 0 1 = cc in omega arith)
+
+-- what goes on was not refused by the question
+passed : (b : Bool) (v : Visited) (n : ℕ) (d : Cursor) → if_then_else_ b v (Refused n) ≡ Went d → (b ≡ true) × (v ≡ Went d)
+unfolding if_then_else_
+passed true v n d e = (refl, e)
+passed false v n d e = refused-went n d e
+
+-- a key record that passes questions 16 to 19, and the cursor behind its suffix
+pub record Entered (s : List ℕ) (o : Opened) (end : ℕ) (c : Cursor) (previous key : List ℕ) (d : Cursor) : Type 0 where
+  pub fewer : c .groups < o .count
+  pub header : c .pos + keyHeaderOf (o .encoding) ≤ end
+  pub fits : Fitting o end c (keyHeaderAt s (o .encoding) (c .pos))
+  pub rises : keyRises c previous key ≡ true
+  pub scan : scanNames s o c ≡ true
+  pub slot : slotNames s o c (hashOf key (o .seed)) ≡ true
+  pub cursor : entered o c (keyHeaderAt s (o .encoding) (c .pos)) (prefixChanges s o c previous key) ≡ d
+
+pub key-entered : (s : List ℕ) (o : Opened) (end : ℕ) (c : Cursor) (previous key : List ℕ) (d : Cursor)
+    → keyOf s o end c previous key ≡ Went d → Entered s o end c previous key d
+unfolding keyOf keyFor
+key-entered s o end c previous key d t =
+    let p = passed _ _ _ d t in
+    let f = passed _ _ _ d (p .1) in
+    let r = passed _ _ _ d (f .1) in
+    let n = passed _ _ _ d (r .1) in
+    let l = passed _ _ _ d (n .1) in
+    let i = inside-asked o end c (p .0) in
+    let e : entered o c (keyHeaderAt s (o .encoding) (c .pos)) (prefixChanges s o c previous key) ≡ d = let w = l .1 in cc in
+    record {
+      fewer = i .0;
+      header = i .1;
+      fits = fitting o end c (keyHeaderAt s (o .encoding) (c .pos)) (f .0);
+      rises = r .0;
+      scan = n .0;
+      slot = l .0;
+      cursor = e;
+    }
+
+-- a version that passes questions 20 and 21, and the cursor behind it
+pub version-advanced : (s : List ℕ) (o : Opened) (e : Entry) (value : List ℕ) (c d : Cursor) → versionFor s o e value (Went c) ≡ Went d
+    → (versionAgrees s o c e ≡ true) × (checksumAgrees s o c value ≡ true) × (advanced o c (e .seq) ≡ d)
+unfolding versionFor
+version-advanced s o e value c d t =
+    let a = passed _ _ _ d t in
+    let k = passed _ _ _ d (a .1) in
+    (a .0, k .0, let w = k .1 in cc)
+
+-- a visit in a key is that of its next version
+pub visit-more : (s : List ℕ) (o : Opened) (end : ℕ) (c : Cursor) (previous : List ℕ) (e : Entry) (value : List ℕ) → (c .remaining ≡ 0 → ⊥)
+    → visitOf s o end c previous e value ≡ versionFor s o e value (Went c)
+unfolding visitOf if_then_else_
+visit-more s o end c previous e value n = rw (ne-eqb _ _ n)
+
+-- a visit behind a key is that of the next key and of its first version
+pub visit-first : (s : List ℕ) (o : Opened) (end : ℕ) (c : Cursor) (previous : List ℕ) (e : Entry) (value : List ℕ) → c .remaining ≡ 0
+    → visitOf s o end c previous e value ≡ versionFor s o e value (keyOf s o end c previous (e .key))
+unfolding visitOf if_then_else_
+visit-first s o end c previous e value z = rw (eq-eqb _ _ z)
+
+-- a version follows a key that was entered
+version-behind : (s : List ℕ) (o : Opened) (e : Entry) (value : List ℕ) (v : Visited) (d : Cursor) → versionFor s o e value v ≡ Went d
+    → (m : Cursor) × (v ≡ Went m) × (versionFor s o e value (Went m) ≡ Went d)
+unfolding versionFor
+version-behind s o e value (Went m) d t = (m, refl, t)
+version-behind s o e value (Refused n) d t = refused-went n d t
+
+-- the anchor's part of an entered key lies in the arena
+anchor-inside : (s : List ℕ) (o : Opened) (end : ℕ) (c : Cursor) (h : KeyHeader) → Inside s o end c → Fitting o end c h
+    → o .arena + anchorOf o c + anchorLenOf c h ≤ end
+unfolding anchorOf anchorLenOf suffixAddress if_then_else_
+anchor-inside s o end c h i f = go (atAnchor c)
+  where
+    go : (b : Bool) → o .arena + if_then_else_ b (suffixAddress o c) (c .anchor) + if_then_else_ b (h .«suffix_len») (c .«anchor_len») ≤ end
+    go true = omega (arith, i .started, f .suffix)
+    go false = i .anchor
+
+entered-inside : (s : List ℕ) (o : Opened) (end : ℕ) (c : Cursor) (h : KeyHeader) (changes : Bool) → Inside s o end c → c .groups < o .count → Fitting o end c h
+    → Inside s o end (entered o c h changes)
+unfolding entered
+entered-inside s o end c h changes i l f =
+    let a = i .started in
+    let p = i .prefixes in
+    record {
+      end-inside = i .end-inside;
+      started = omega arith;
+      versions = f .versions;
+      keys = omega arith;
+      anchor = anchor-inside s o end c h i f;
+      shared = f .shared;
+      suffix = f .suffix;
+      prefixes = if-case (λ n. n ≤ c .groups + 1) changes (c .prefixes + 1) (c .prefixes) (λ _. omega arith) (λ _. omega arith);
+    }
+
+-- a key that is entered has a version to come, and lies in the arena
+pub key-inside : (s : List ℕ) (o : Opened) (end : ℕ) (c : Cursor) (previous key : List ℕ) (d : Cursor)
+    → Inside s o end c → keyOf s o end c previous key ≡ Went d → (Inside s o end d) × (1 ≤ d .remaining)
+unfolding entered
+key-inside s o end c previous key d i t =
+    let k = key-entered s o end c previous key d t in
+    let h = keyHeaderAt s (o .encoding) (c .pos) in
+    let r : h .versions ≡ d .remaining = ap (λ (x : Cursor). x .remaining) (k .cursor) in
+    let v = k .fits .some-version in
+    (subst (Inside s o end) (k .cursor) (entered-inside s o end c h (prefixChanges s o c previous key) i (k .fewer) (k .fits)), omega arith)
+
+advanced-inside : (s : List ℕ) (o : Opened) (end : ℕ) (c : Cursor) (seq : ℕ) → Inside s o end c → 1 ≤ c .remaining → Inside s o end (advanced o c seq)
+unfolding advanced
+advanced-inside s o end c seq i h =
+    let n : suc (c .remaining - 1) ≡ c .remaining = omega arith in
+    let m : (c .remaining - 1) * versionOf (o .encoding) + versionOf (o .encoding) ≡ c .remaining * versionOf (o .encoding) =
+    sym (suc-mul (c .remaining - 1) (versionOf (o .encoding))) ∙ ap (λ (k : ℕ). k * versionOf (o .encoding)) n in
+    let v = i .versions in
+    let a = i .started in
+    record {
+      end-inside = i .end-inside;
+      started = omega arith;
+      versions = omega arith;
+      keys = i .keys;
+      anchor = i .anchor;
+      shared = i .shared;
+      suffix = i .suffix;
+      prefixes = i .prefixes;
+    }
+
+version-inside : (s : List ℕ) (o : Opened) (end : ℕ) (e : Entry) (value : List ℕ) (c d : Cursor) → Inside s o end c → 1 ≤ c .remaining
+    → versionFor s o e value (Went c) ≡ Went d → Inside s o end d
+version-inside s o end e value c d i h t =
+    subst (Inside s o end) (version-advanced s o e value c d t .2) (advanced-inside s o end c (e .seq) i h)
+
+-- a visit that goes on stays in the arena
+pub visit-inside : (s : List ℕ) (o : Opened) (end : ℕ) (c : Cursor) (previous : List ℕ) (e : Entry) (value : List ℕ) (d : Cursor)
+    → Readable s o → Inside s o end c → visitOf s o end c previous e value ≡ Went d → Inside s o end d
+visit-inside s o end c previous e value d r i t = go (eqb (c .remaining) 0) refl
+  where
+    go : (b : Bool) → eqb (c .remaining) 0 ≡ b → Inside s o end d
+    go true z =
+        let v = version-behind s o e value (keyOf s o end c previous (e .key)) d (sym (visit-first s o end c previous e value (eqb-true _ _ z)) ∙ t) in
+        let k = key-inside s o end c previous (e .key) (v .0) i (v .1) in
+        version-inside s o end e value (v .0) d (k .0) (k .1) (v .2)
+    go false n =
+        let m = eqb-false _ _ n in
+        version-inside s o end e value c d i (omega arith) (sym (visit-more s o end c previous e value m) ∙ t)
+
+-- behind a key a visit that goes on meets the next one
+pub visit-next : (s : List ℕ) (o : Opened) (end : ℕ) (c : Cursor) (previous : List ℕ) (e : Entry) (value : List ℕ) (d : Cursor)
+    → c .remaining ≡ 0 → visitOf s o end c previous e value ≡ Went d → d .groups ≡ c .groups + 1
+unfolding entered advanced
+visit-next s o end c previous e value d z t =
+    let v = version-behind s o e value (keyOf s o end c previous (e .key)) d (sym (visit-first s o end c previous e value z) ∙ t) in
+    let k = key-entered s o end c previous (e .key) (v .0) (v .1) in
+    sym (ap (λ (x : Cursor). x .groups) (version-advanced s o e value (v .0) d (v .2) .2)) ∙ sym (ap (λ (x : Cursor). x .groups) (k .cursor))
+
+-- in a key it meets the next version
+pub visit-same : (s : List ℕ) (o : Opened) (end : ℕ) (c : Cursor) (previous : List ℕ) (e : Entry) (value : List ℕ) (d : Cursor)
+    → (c .remaining ≡ 0 → ⊥) → visitOf s o end c previous e value ≡ Went d → (d .groups ≡ c .groups) × (d .remaining + 1 ≡ c .remaining)
+unfolding advanced
+visit-same s o end c previous e value d n t =
+    let a = version-advanced s o e value c d (sym (visit-more s o end c previous e value n) ∙ t) .2 in
+    let r : c .remaining - 1 ≡ d .remaining = ap (λ (x : Cursor). x .remaining) a in
+    (sym (ap (λ (x : Cursor). x .groups) a), omega arith)

@@ -1,0 +1,100 @@
+-- The answer for each way through the questions.
+-- Assumes nothing.
+use mathlib.Core.Path.{_≡_, refl, sym, ap, ap₂, _∙_}
+use mathlib.Core.Bool.{Bool, true, false}
+use mathlib.Core.List.{List}
+use Prim.Native.Nat.{ℕ, _-_, _<_, _≤_}
+use lib.ListN.{length}
+use borrow.Author.Tests.{lt-ltb, le-ltb}
+use Rattle.num.proofs.Choice.{true-both, both-no, both-yes, if-yes, if-no}
+use Rattle.encoding.specs.Encoding.{trailerLen, scanFlag}
+use Rattle.header.specs.declared.Opened.{Opened}
+use Rattle.header.specs.declared.HeaderRead.the-variants.{Accepted, Refused}
+use Rattle.header.specs.Header.{begins, flagsOf, hasFlag, fieldsOf, dimensions, arenaBelow, scanFlagged, scanPlaceOf, scanPart, scanSettings, withScan, scannedOf, headerOf, fitsPacked, packedRecord, sameRecord, packedOf}
+
+-- questions 5 and 6
+module _ (s : List ℕ) (o : Opened) (place : ℕ) (q : place ≡ scanPlaceOf s o) where
+  settings : (t : Bool) → scanSettings s place (o .count) ≡ t → scanSettings s (scanPlaceOf s o) (o .count) ≡ t
+  settings t e = ap (λ (k : ℕ). scanSettings s k (o .count)) (sym q) ∙ e
+
+  pub scanned-5 : scanPart s o ≡ false → Refused 5 ≡ scannedOf s o
+  unfolding scannedOf
+  scanned-5 p = if-no _ _ _ _ p refl
+
+  pub scanned-6 : scanPart s o ≡ true → scanSettings s place (o .count) ≡ false → Refused 6 ≡ scannedOf s o
+  unfolding scannedOf
+  scanned-6 p r = if-yes _ _ _ _ p (if-no _ _ _ _ (settings false r) refl)
+
+  pub scanned-yes : scanPart s o ≡ true → scanSettings s place (o .count) ≡ true → Accepted (withScan o place) ≡ scannedOf s o
+  unfolding scannedOf
+  scanned-yes p r = if-yes _ _ _ _ p (if-yes _ _ _ _ (settings true r) (ap (λ (k : ℕ). Accepted (withScan o k)) q))
+
+-- questions 3 and 4, and whether 5 and 6 are asked
+module _ (s : List ℕ) (o : Opened) (flags : ℕ) (e : o ≡ fieldsOf s) (f : flags ≡ flagsOf s) where
+  sizes : (t : Bool) → dimensions o flags ≡ t → dimensions (fieldsOf s) (flagsOf s) ≡ t
+  sizes t d = ap₂ dimensions (sym e) (sym f) ∙ d
+
+  above : length s - trailerLen ≤ o .arena → arenaBelow s (fieldsOf s) ≡ false
+  unfolding arenaBelow
+  above h = ap (arenaBelow s) (sym e) ∙ le-ltb (o .arena) (length s - trailerLen) h
+
+  below : o .arena < length s - trailerLen → arenaBelow s (fieldsOf s) ≡ true
+  unfolding arenaBelow
+  below h = ap (arenaBelow s) (sym e) ∙ lt-ltb (o .arena) (length s - trailerLen) h
+
+  flagged : (t : Bool) → hasFlag scanFlag flags ≡ t → scanFlagged s ≡ t
+  unfolding scanFlagged
+  flagged t h = ap (hasFlag scanFlag) (sym f) ∙ h
+
+  pub header-3 : begins s ≡ false → Refused 3 ≡ headerOf s
+  unfolding headerOf
+  header-3 b = if-no _ _ _ _ b refl
+
+  pub header-4 : begins s ≡ true → dimensions o flags ≡ false → Refused 4 ≡ headerOf s
+  unfolding headerOf
+  header-4 b d = if-yes _ _ _ _ b (if-no _ _ _ _ (sym (both-no _ _ (sizes false d))) refl)
+
+  pub header-4-length : begins s ≡ true → dimensions o flags ≡ true → length s - trailerLen ≤ o .arena → Refused 4 ≡ headerOf s
+  unfolding headerOf
+  header-4-length b d h = if-yes _ _ _ _ b (if-no _ _ _ _ (sym (both-yes _ _ _ (sizes true d) (sym (above h)))) refl)
+
+  pub header-scanned : begins s ≡ true → dimensions o flags ≡ true → o .arena < length s - trailerLen → hasFlag scanFlag flags ≡ true
+      → scannedOf s o ≡ headerOf s
+  unfolding headerOf
+  header-scanned b d h t =
+      if-yes _ _ _ _ b (if-yes _ _ _ _ (true-both _ _ (sizes true d) (below h)) (if-yes _ _ _ _ (flagged true t) (ap (scannedOf s) e)))
+
+  pub header-unscanned : begins s ≡ true → dimensions o flags ≡ true → o .arena < length s - trailerLen → hasFlag scanFlag flags ≡ false
+      → Accepted o ≡ headerOf s
+  unfolding headerOf
+  header-unscanned b d h t =
+      if-yes _ _ _ _ b (if-yes _ _ _ _ (true-both _ _ (sizes true d) (below h)) (if-no _ _ _ _ (flagged false t) (ap Accepted e)))
+
+-- question 24 of a packed record
+module _ (s : List ℕ) (o found : Opened) (flags : ℕ) (e : found ≡ fieldsOf s) (f : flags ≡ flagsOf s) where
+  pub packed-3 : begins s ≡ false → false ≡ packedOf s o
+  unfolding packedOf
+  packed-3 b = both-no _ _ b
+
+  pub packed-4 : begins s ≡ true → dimensions found flags ≡ false → false ≡ packedOf s o
+  unfolding packedOf
+  packed-4 b d = both-yes _ _ _ b (both-no _ _ (sizes s found flags e f false d))
+
+  pub packed-7 : begins s ≡ true → dimensions found flags ≡ true → fitsPacked found ≡ false → false ≡ packedOf s o
+  unfolding packedOf
+  packed-7 b d p = both-yes _ _ _ b (both-yes _ _ _ (sizes s found flags e f true d) (both-no _ _ (ap fitsPacked (sym e) ∙ p)))
+
+  module _ (packed : Opened) (g : packed ≡ packedRecord found) where
+    pub packed-length : begins s ≡ true → dimensions found flags ≡ true → fitsPacked found ≡ true → length s - trailerLen ≤ packed .arena → false ≡ packedOf s o
+    unfolding packedOf arenaBelow
+    packed-length b d p h =
+        both-yes _ _ _ b (both-yes _ _ _ (sizes s found flags e f true d) (both-yes _ _ _ (ap fitsPacked (sym e) ∙ p)
+        (both-no _ _ (ap (arenaBelow s) (ap packedRecord (sym e) ∙ sym g) ∙ le-ltb (packed .arena) (length s - trailerLen) h))))
+
+    pub packed-same : begins s ≡ true → dimensions found flags ≡ true → fitsPacked found ≡ true → packed .arena < length s - trailerLen
+        → sameRecord packed o ≡ packedOf s o
+    unfolding packedOf arenaBelow
+    packed-same b d p h =
+        both-yes _ _ _ b (both-yes _ _ _ (sizes s found flags e f true d) (both-yes _ _ _ (ap fitsPacked (sym e) ∙ p)
+        (both-yes _ _ _ (ap (arenaBelow s) (ap packedRecord (sym e) ∙ sym g) ∙ lt-ltb (packed .arena) (length s - trailerLen) h)
+        (ap (λ (r : Opened). sameRecord r o) (g ∙ ap packedRecord e)))))

@@ -1,0 +1,239 @@
+-- A header is accepted, and a record is the one of a section, exactly if the facts of specs/Facts hold.
+-- Assumes nothing.
+use mathlib.Core.Path.{_≡_, refl, sym, ap, _∙_, subst}
+use mathlib.Core.Bool.{Bool, true, false}
+use mathlib.Core.List.{List, [], _∷_}
+use Prim.Native.Nat.{ℕ, _-_, _^_, _<_}
+use native.Mathlib.Omega.{arith}
+use lib.ListN.{length}
+use borrow.Author.Tests.{ltb-true, lt-ltb}
+use Rattle.num.specs.Choice.{if_then_else_, both, either, oneOf}
+use Rattle.num.specs.Number.{leAt}
+use Rattle.num.proofs.Choice.{both-true, true-both, false-true, if-yes, if-no}
+use Rattle.encoding.specs.Encoding.{trailerLen, arenaStartOf}
+use Rattle.header.specs.declared.Opened.{Opened}
+use Rattle.header.specs.declared.HeaderRead.{HeaderRead}
+use Rattle.header.specs.declared.HeaderRead.the-variants.{Accepted, Refused}
+use Rattle.header.specs.Header.{begins, flagsOf, fieldsOf, dimensions, arenaBelow, scanFlagged, scanPartLen, scanPlaceOf, scanPart, scanSettings, withScan, scannedOf, headerOf, fitsPacked, packedRecord, plainFor, packedOf, recordOf}
+use Rattle.header.specs.Facts.{Dimensions, Header, PackedHeader, IsRecord, plain, packed}
+use Rattle.header.proofs.Answers.{scanned-yes, header-scanned, header-unscanned}
+use Rattle.header.proofs.Questions.{begins-yes, yes-begins, dimensions-yes, yes-dimensions, scan-yes, yes-scan, scan-place, packed-yes, yes-packed, record-same, same-record}
+
+below-yes : (s : List ℕ) (o : Opened) → arenaBelow s o ≡ true → o .arena < length s - trailerLen
+unfolding arenaBelow
+below-yes s o e = ltb-true _ _ e
+
+yes-below : (s : List ℕ) (o : Opened) → o .arena < length s - trailerLen → arenaBelow s o ≡ true
+unfolding arenaBelow
+yes-below s o h = lt-ltb _ _ h
+
+-- ---- questions 3 to 6
+
+module _ (s : List ℕ) (b : begins s ≡ true) (d : dimensions (fieldsOf s) (flagsOf s) ≡ true) (l : arenaBelow s (fieldsOf s) ≡ true) where
+  unscanned-facts : scanFlagged s ≡ false → Header s (fieldsOf s)
+  unfolding fieldsOf withScan
+  unscanned-facts f =
+      let q = dimensions-yes (fieldsOf s) (flagsOf s) d in
+      record {
+        begins = begins-yes s b;
+        numbers = refl;
+        dimensions = q .0;
+        flags = q .1;
+        start = q .2;
+        below = below-yes s (fieldsOf s) l;
+        scanned = λ t. false-true (sym f ∙ t);
+        unscanned = λ _. refl;
+      }
+
+  scanned-facts : scanFlagged s ≡ true → scanPart s (fieldsOf s) ≡ true → scanSettings s (scanPlaceOf s (fieldsOf s)) (fieldsOf s .count) ≡ true
+      → Header s (withScan (fieldsOf s) (scanPlaceOf s (fieldsOf s)))
+  unfolding fieldsOf withScan
+  scanned-facts t p r =
+      let q = dimensions-yes (fieldsOf s) (flagsOf s) d in
+      let k = q .0 in
+      record {
+        begins = begins-yes s b;
+        numbers = refl;
+        dimensions = record { some = k .some; few = k .few; halved = k .halved; widths = k .widths };
+        flags = q .1;
+        start = q .2;
+        below = below-yes s (fieldsOf s) l;
+        scanned = λ _. scan-yes s (fieldsOf s) p r;
+        unscanned = λ f. false-true (sym f ∙ t);
+      }
+
+-- an accepted header has the facts
+pub header-facts : (s : List ℕ) (o : Opened) → headerOf s ≡ Accepted o → Header s o
+unfolding headerOf scannedOf if_then_else_
+header-facts s o e =
+    go (begins s) (both (dimensions f (flagsOf s)) (arenaBelow s f)) (scanFlagged s) (scanPart s f) (scanSettings s (scanPlaceOf s f) (f .count))
+    refl refl refl refl refl e
+  where
+    f : Opened
+    f = fieldsOf s
+
+    clash : {A : Type 0} (n : ℕ) → Refused n ≡ Accepted o → A
+    clash n p = absurd (let z : _≡_ {A = ℕ} 0 1 = cc in omega arith)
+
+    same : (r : Opened) → Header s r → Accepted r ≡ Accepted o → Header s o
+    same r h p = let q : r ≡ o = cc in subst (Header s) q h
+
+    go : (b d t p r : Bool) → begins s ≡ b → both (dimensions f (flagsOf s)) (arenaBelow s f) ≡ d → scanFlagged s ≡ t
+        → scanPart s f ≡ p → scanSettings s (scanPlaceOf s f) (f .count) ≡ r
+        → if_then_else_ b
+        (if_then_else_ d
+        (if_then_else_ t (if_then_else_ p (if_then_else_ r (Accepted (withScan f (scanPlaceOf s f))) (Refused 6)) (Refused 5)) (Accepted f))
+        (Refused 4))
+        (Refused 3) ≡ Accepted o → Header s o
+    go false d t p r hb hd ht hp hr e = clash 3 e
+    go true false t p r hb hd ht hp hr e = clash 4 e
+    go true true false p r hb hd ht hp hr e = let q = both-true _ _ hd in same f (unscanned-facts s hb (q .0) (q .1) ht) e
+    go true true true false r hb hd ht hp hr e = clash 5 e
+    go true true true true false hb hd ht hp hr e = clash 6 e
+    go true true true true true hb hd ht hp hr e =
+        let q = both-true _ _ hd in same (withScan f (scanPlaceOf s f)) (scanned-facts s hb (q .0) (q .1) ht hp hr) e
+
+-- a refusal's number is 3, 4, 5 or 6
+pub refused-number : (s : List ℕ) (n : ℕ) → headerOf s ≡ Refused n → oneOf (3 ∷ 4 ∷ 5 ∷ 6 ∷ []) n ≡ true
+unfolding headerOf scannedOf if_then_else_ oneOf either
+refused-number s n e =
+    go (begins s) (both (dimensions f (flagsOf s)) (arenaBelow s f)) (scanFlagged s) (scanPart s f) (scanSettings s (scanPlaceOf s f) (f .count)) e
+  where
+    f : Opened
+    f = fieldsOf s
+
+    clash : {A : Type 0} (o : Opened) → Accepted o ≡ Refused n → A
+    clash o p = absurd (let z : _≡_ {A = ℕ} 0 1 = cc in omega arith)
+
+    same : (m : ℕ) → oneOf (3 ∷ 4 ∷ 5 ∷ 6 ∷ []) m ≡ true → Refused m ≡ Refused n → oneOf (3 ∷ 4 ∷ 5 ∷ 6 ∷ []) n ≡ true
+    same m t p = let q : m ≡ n = cc in subst (λ (k : ℕ). oneOf (3 ∷ 4 ∷ 5 ∷ 6 ∷ []) k ≡ true) q t
+
+    go : (b d t p r : Bool)
+        → if_then_else_ b
+        (if_then_else_ d
+        (if_then_else_ t (if_then_else_ p (if_then_else_ r (Accepted (withScan f (scanPlaceOf s f))) (Refused 6)) (Refused 5)) (Accepted f))
+        (Refused 4))
+        (Refused 3) ≡ Refused n → oneOf (3 ∷ 4 ∷ 5 ∷ 6 ∷ []) n ≡ true
+    go false d t p r e = same 3 refl e
+    go true false t p r e = same 4 refl e
+    go true true false p r e = clash f e
+    go true true true false r e = same 5 refl e
+    go true true true true false e = same 6 refl e
+    go true true true true true e = clash (withScan f (scanPlaceOf s f)) e
+
+module _ (s : List ℕ) (o : Opened) (h : Header s o) where
+  sizes : dimensions (withScan o 0) (flagsOf s) ≡ true
+  unfolding withScan
+  sizes =
+      let d = h .dimensions in
+      yes-dimensions (withScan o 0) (flagsOf s) (record { some = d .some; few = d .few; halved = d .halved; widths = d .widths }) (h .flags) (h .start)
+
+  unscanned-header : scanFlagged s ≡ false → Accepted (withScan o 0) ≡ headerOf s
+  unfolding withScan scanFlagged
+  unscanned-header t = header-unscanned s (withScan o 0) (flagsOf s) (h .numbers) refl (yes-begins s (h .begins)) sizes (h .below) t
+
+  scanned-header : scanFlagged s ≡ true → Accepted o ≡ headerOf s
+  unfolding withScan scanFlagged scanPart scanPlaceOf scanPartLen
+  scanned-header t =
+      let k = h .scanned t in
+      let y = yes-scan s o k in
+      let e : scanPlaceOf s o ≡ o .scan = scan-place s o k in
+      scanned-yes s (withScan o 0) (o .scan) (sym e) (y .0) (ap (λ (n : ℕ). scanSettings s n (o .count)) (sym e) ∙ y .1)
+      ∙ header-scanned s (withScan o 0) (flagsOf s) (h .numbers) refl (yes-begins s (h .begins)) sizes (h .below) t
+
+-- a header with the facts is accepted
+pub facts-header : (s : List ℕ) (o : Opened) → Header s o → headerOf s ≡ Accepted o
+unfolding withScan
+facts-header s o h = go (scanFlagged s) refl
+  where
+    go : (t : Bool) → scanFlagged s ≡ t → headerOf s ≡ Accepted o
+    go true t = sym (scanned-header s o h t)
+    go false t = sym (ap (λ (n : ℕ). Accepted (withScan o n)) (h .unscanned t) ∙ unscanned-header s o h t)
+
+-- ---- question 24
+
+-- a record that a header gave is plain
+pub header-plain : (s : List ℕ) (o : Opened) → Header s o → o .packed ≡ false
+unfolding withScan fieldsOf
+header-plain s o h = ap (λ (r : Opened). r .packed) (h .numbers)
+
+-- a packed record of question 24 is packed
+pub header-packed : (s : List ℕ) (o : Opened) → PackedHeader s o → o .packed ≡ true
+unfolding packedRecord
+header-packed s o h = ap (λ (r : Opened). r .packed) (h .numbers)
+
+plain-yes : (o : Opened) (r : HeaderRead) → plainFor r o ≡ true → r ≡ Accepted o
+unfolding plainFor
+plain-yes o (Accepted found) e = ap Accepted (record-same found o e)
+plain-yes o (Refused n) e = false-true e
+
+yes-plain : (o : Opened) (r : HeaderRead) → r ≡ Accepted o → plainFor r o ≡ true
+unfolding plainFor
+yes-plain o r e = ap (λ (r : HeaderRead). plainFor r o) e ∙ same-record o o refl
+
+packed-facts : (s : List ℕ) (o : Opened) → packedOf s o ≡ true → PackedHeader s o
+unfolding packedOf packedRecord fieldsOf
+packed-facts s o t =
+    let b = both-true _ _ t in
+    let d = both-true _ _ (b .1) in
+    let p = both-true _ _ (d .1) in
+    let l = both-true _ _ (p .1) in
+    let q = dimensions-yes (fieldsOf s) (flagsOf s) (d .0) in
+    let k = q .0 in
+    let y = packed-yes (fieldsOf s) (p .0) in
+    let e = record-same (packedRecord (fieldsOf s)) o (l .1) in
+    subst (PackedHeader s) e (record {
+      begins = begins-yes s (b .0);
+      numbers = refl;
+      dimensions = record { some = k .some; few = k .few; halved = k .halved; widths = k .widths };
+      flags = q .1;
+      plain-start = q .2;
+      below = below-yes s (packedRecord (fieldsOf s)) (l .0);
+      checksums = y .0;
+      few = y .1;
+    })
+
+module _ (s : List ℕ) (o : Opened) (h : PackedHeader s o) where
+  fields : Dimensions (fieldsOf s)
+  unfolding packedRecord
+  fields =
+      let d = subst Dimensions (h .numbers) (h .dimensions) in
+      record { some = d .some; few = d .few; halved = d .halved; widths = d .widths }
+
+  start : fieldsOf s .arena ≡ arenaStartOf (fieldsOf s .count) (fieldsOf s .encoding .address)
+  unfolding packedRecord fieldsOf
+  start = subst (λ (r : Opened). leAt s 24 8 ≡ arenaStartOf (r .count) (r .encoding .address)) (h .numbers) (h .plain-start)
+
+  fits : fitsPacked (fieldsOf s) ≡ true
+  unfolding packedRecord
+  fits =
+      subst (λ (r : Opened). r .encoding .checksum ≡ true → r .count < 2 ^ 23 → fitsPacked (fieldsOf s) ≡ true) (sym (h .numbers))
+      (yes-packed (fieldsOf s)) (h .checksums) (h .few)
+
+  facts-packed : packedOf s o ≡ true
+  unfolding packedOf
+  facts-packed =
+      true-both _ _ (yes-begins s (h .begins))
+      (true-both _ _ (yes-dimensions (fieldsOf s) (flagsOf s) fields (h .flags) start)
+      (true-both _ _ fits
+      (true-both _ _ (ap (arenaBelow s) (sym (h .numbers)) ∙ yes-below s o (h .below))
+      (same-record _ _ (sym (h .numbers))))))
+
+-- a record of which question 24 is answered yes has the facts
+pub record-facts : (s : List ℕ) (o : Opened) → recordOf s o ≡ true → IsRecord s o
+unfolding recordOf if_then_else_
+record-facts s o e = go (o .packed) e
+  where
+    go : (p : Bool) → if_then_else_ p (packedOf s o) (plainFor (headerOf s) o) ≡ true → IsRecord s o
+    go true e = packed (packed-facts s o e)
+    go false e = plain (header-facts s o (plain-yes o (headerOf s) e))
+
+-- and a record with the facts is answered yes
+pub facts-record : (s : List ℕ) (o : Opened) → IsRecord s o → recordOf s o ≡ true
+unfolding recordOf
+facts-record s o (plain h) = sym (if-no _ _ _ _ (header-plain s o h) (sym (yes-plain o (headerOf s) (facts-header s o h))))
+facts-record s o (packed h) = sym (if-yes _ _ _ _ (header-packed s o h) (sym (facts-packed s o h)))
+
+-- the record that a header gave passes question 24
+pub header-record : (s : List ℕ) (o : Opened) → headerOf s ≡ Accepted o → recordOf s o ≡ true
+header-record s o e = facts-record s o (plain (header-facts s o e))

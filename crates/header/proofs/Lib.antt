@@ -1,0 +1,6 @@
+pub mod Answers
+pub mod Bounds
+pub mod Examples
+pub mod Headers
+pub mod Packed
+pub mod Questions
