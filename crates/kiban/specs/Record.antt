@@ -1,0 +1,23 @@
+-- An opened record as sixteen numbers, and what an opening leaves in them.
+use Prim.Native.Nat.{ℕ}
+use mathlib.Core.List.{List, [], _∷_}
+use mathlib.Core.Bool.{Bool, true, false}
+use lib.Seq.{sets}
+use Rattle.num.specs.Choice.{if_then_else_}
+use Rattle.header.specs.declared.Opened.{Opened}
+use Rattle.header.specs.declared.HeaderRead.{HeaderRead}
+use Rattle.header.specs.declared.HeaderRead.the-variants.{Accepted, Refused}
+
+unfoldable pub flagNumber : Bool → ℕ
+flagNumber b = if b then 1 else 0
+
+-- seed, least sequence, n, b, arena; the widths of address, key, count, sequence, value; checksums, scan, packed; then zeros
+unfoldable pub recordNumbers : Opened → List ℕ
+recordNumbers o =
+    o .seed ∷ o .«min_seq» ∷ o .count ∷ o .buckets ∷ o .arena ∷ o .encoding .address ∷ o .encoding .key ∷ o .encoding .count ∷ o .encoding .seq
+    ∷ o .encoding .value ∷ flagNumber (o .encoding .checksum) ∷ o .scan ∷ flagNumber (o .packed) ∷ 0 ∷ 0 ∷ 0 ∷ []
+
+-- the record behind an opening: its sixteen numbers, or what stood there
+unfoldable pub recordWritten : HeaderRead → List ℕ → List ℕ
+recordWritten (Accepted o) before = sets before 0 (recordNumbers o)
+recordWritten (Refused n) before = before
