@@ -75,7 +75,7 @@ layers! {
     walk: "probe_record";
     width: "probe_width";
     section_len: "probe_section_len";
-    opening: "kiban_open" "kiban_open_packed";
+    opening: "kiban_open";
     lookup: "kiban_lookup" "kiban_value";
     spans: "kiban_span";
     building: "kiban_add" "kiban_size" "kiban_write";

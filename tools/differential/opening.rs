@@ -44,6 +44,12 @@ fn our_plain(case: &Case, list: &[u64]) -> Answer {
     scratch.guarded(Answer { number, ..Answer::words(words(&record, &[])) })
 }
 
+#[cfg(not(has = "kiban_open_packed"))]
+fn our_packed(_: &Case, _: &[u64]) -> Answer {
+    unreachable!("`both` makes no packed case without the packed opening")
+}
+
+#[cfg(has = "kiban_open_packed")]
 fn our_packed(case: &Case, list: &[u64]) -> Answer {
     let shift = case.numbers[1];
     let (section, data) = (Buffer::input(&case.bytes[0], shift), Buffer::input(&case.bytes[1], shift + 3));
@@ -95,7 +101,9 @@ fn rust_packed(case: &Case, list: &[u64]) -> Answer {
 fn both(run: &mut Run, input: &Input, scratch: usize, output: usize, shift: u64) {
     let parts: [&[u8]; 3] = [&input.section, &input.data, &le64(&input.list)];
     run.compare(ask, Case::new("open", &[scratch as u64, shift], &parts));
-    run.compare(ask, Case::new("open_packed", &[scratch as u64, shift, output as u64], &parts));
+    if cfg!(has = "kiban_open_packed") {
+        run.compare(ask, Case::new("open_packed", &[scratch as u64, shift, output as u64], &parts));
+    }
 }
 
 /// Each byte of a small store's section and data changed, sealed again and not, and each cut.

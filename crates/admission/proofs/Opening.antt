@@ -110,8 +110,7 @@ contents-asks s «data» blocks scratch o p e =
     let f = finished t (pairsFrom t blocks 0 (firstState o)) p (e₂ .1) in
     let d = ends-data t (f .at) (f .last .cursor) (f .together) in
     let w = pairs-exactly t blocks (firstState o) (progressOf (f .last)) .0 (f .last, f .through ∙ ap (λ (n : ℕ). ended n (f .last)) d, refl) in
-    let g = accepted-exactly t (storeEntries «data» blocks) (f .at) .0 (progressOf (f .last), w .1, f .together, f .counted) in
-    (
+    let g = accepted-exactly t (storeEntries «data» blocks) (f .at) .0 (progressOf (f .last), w .1, f .together, f .counted) in (
       record {
         pilots = record { direct = λ k h. pilot-yes s o k (pilots-yes s o (o .buckets) (e₁ .0) k h) };
         covers = w .0;

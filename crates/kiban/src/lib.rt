@@ -6,7 +6,6 @@ ghost use Rattle.crc32.specs.V42.{crcOf};
 ghost use Rattle.header.specs.Header.{headerNumber};
 ghost use Rattle.opening.specs.Open.{openOf};
 ghost use Rattle.kiban.specs.Record.{flagNumber, recordNumbers, recordWritten};
-
 use header::HeaderRead;
 use header::Opened;
 
@@ -58,8 +57,8 @@ pub extern "C" fn kiban_open(
     out: &mut [u64; 16],
 ) -> u64
     ensures { λ r. ⌜ (r ≡ headerNumber (openOf (now (section .entry)) (now («data» .entry)) (now (blocks .entry)) (length (now (scratch .entry)))))
-      × (now (out .exit) ≡ recordWritten (openOf (now (section .entry)) (now («data» .entry)) (now (blocks .entry)) (length (now (scratch .entry)))) (now (out .entry)))
-      × (length (now (scratch .exit)) ≡ length (now (scratch .entry))) ⌝ }
+        × (now (out .exit) ≡ recordWritten (openOf (now (section .entry)) (now («data» .entry)) (now (blocks .entry)) (length (now (scratch .entry)))) (now (out .entry)))
+        × (length (now (scratch .exit)) ≡ length (now (scratch .entry))) ⌝ }
 {
     let found = opening::open(section, data, blocks, scratch);
     match found {

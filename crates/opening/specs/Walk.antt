@@ -76,9 +76,9 @@ askedAt t offset raw entriesEnd pos st = recordFor t offset st (stepOf raw entri
 unfoldable pub blockFrom : ℕ → Store → ℕ → List ℕ → ℕ → ℕ → State → Answer
 blockFrom zero t offset raw entriesEnd pos st = refused 13
 blockFrom (suc f) t offset raw entriesEnd pos st =
-    elim (leb entriesEnd pos)
-    [ true ↦ passed st
-    | false ↦ elim (askedAt t offset raw entriesEnd pos st) [ more next after ↦ blockFrom f t offset raw entriesEnd next after | refused n ↦ refused n ]
+    elim (leb entriesEnd pos) [
+      | true ↦ passed st
+      | false ↦ elim (askedAt t offset raw entriesEnd pos st) [ more next after ↦ blockFrom f t offset raw entriesEnd next after | refused n ↦ refused n ]
     ]
 
 -- at a block's start no key is before
@@ -112,9 +112,9 @@ unfoldable pub pairsFrom : Store → List ℕ → ℕ → State → Ended
 pairsFrom t [] at st = ended at st
 pairsFrom t (offset ∷ []) at st = refused 11
 pairsFrom t (offset ∷ len ∷ pairs) at st =
-    elim (pairFits t at offset len)
-    [ true ↦ elim (blockAsked t offset len st) [ passed after ↦ pairsFrom t pairs (offset + len) after | refused n ↦ refused n ]
-    | false ↦ refused 11
+    elim (pairFits t at offset len) [
+      | true ↦ elim (blockAsked t offset len st) [ passed after ↦ pairsFrom t pairs (offset + len) after | refused n ↦ refused n ]
+      | false ↦ refused 11
     ]
 
 -- names all definitions of this file: `unfolding walk-defs` opens them

@@ -16,7 +16,6 @@ ghost use Rattle.num.specs.Choice.{if_then_else_, both, either};
 ghost use Rattle.opening.specs.Walk.{more, placed, recordAsked, askedAt, blockOf, blockAsked, ended, pairsFrom};
 ghost use Rattle.opening.specs.Open.{pilotInside, pilotsInside, startAt, endFor, contentsOf, openOf};
 ghost use Rattle.opening.specs.Scratch.{storeWith, stateIn, Held, Ready, recordHeld, Lies, entryIn, askedFor, blockHeld, answerFor, endedFor};
-
 use arena::Cursor;
 use arena::Found;
 use arena::Visited;
@@ -237,7 +236,17 @@ fn open_record(
     match stepped {
         Stepped::Stopped => RecordOpened::Refused(13),
         Stepped::Met(r) => visit_record(
-            table, section, o, end, data, offset, raw, scratch, half, w, r,
+            table,
+            section,
+            o,
+            end,
+            data,
+            offset,
+            raw,
+            scratch,
+            half,
+            w,
+            r,
         ),
     }
 }
@@ -372,7 +381,16 @@ fn open_blocks(
             return BlocksOpened::Refused(11);
         }
         let opened = open_pair(
-            table, section, o, end, data, offset, len, scratch, half, carried,
+            table,
+            section,
+            o,
+            end,
+            data,
+            offset,
+            len,
+            scratch,
+            half,
+            carried,
         );
         match opened {
             BlockOpened::Passed(after) => {
@@ -483,7 +501,17 @@ pub fn contents(
     }
     let end = arena_end(section, o);
     let half = scratch.len() / 2;
-    let walked = open_blocks(table, section, o, end, data, blocks, scratch, half, start(o));
+    let walked = open_blocks(
+        table,
+        section,
+        o,
+        end,
+        data,
+        blocks,
+        scratch,
+        half,
+        start(o),
+    );
     match walked {
         BlocksOpened::Ended(at, w) => {
             let c = w.cursor;

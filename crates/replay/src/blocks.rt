@@ -1,7 +1,6 @@
 // Soundness of blocks, and the walk of their records.
 ghost use Prim.Native.Nat.{_≤_, _<_};
 ghost use lib.ListN.{length};
-
 use crate::list;
 use crate::list::Checked;
 
@@ -19,13 +18,22 @@ pub fn verify(list: &[u8], at: usize) -> Checked
     let found = probe::probe_verify(raw, &mut meta);
     let size = 2 + len + 32;
     if found != list::number(list, numbers) {
-        return Checked { agrees: false, size };
+        return Checked {
+            agrees: false,
+            size,
+        };
     }
     if meta[0] != list::number(list, numbers + 8) {
-        return Checked { agrees: false, size };
+        return Checked {
+            agrees: false,
+            size,
+        };
     }
     if meta[1] != list::number(list, numbers + 16) {
-        return Checked { agrees: false, size };
+        return Checked {
+            agrees: false,
+            size,
+        };
     }
     Checked {
         agrees: meta[2] == list::number(list, numbers + 24),
@@ -110,7 +118,11 @@ fn walked(raw: &[u8], list: &[u8], scratch: &mut [u8], numbers: usize) -> Progre
     let expected = list::number(list, numbers + 16);
     let mut fields = [0u64; 6];
     let last = probe::probe_record(raw, end, w.pos, w.key_len, scratch, &mut fields);
-    let ended = if expected == 0 { w.pos == end } else { last == expected };
+    let ended = if expected == 0 {
+        w.pos == end
+    } else {
+        last == expected
+    };
     Progress {
         pos: w.pos,
         key_len: w.key_len,

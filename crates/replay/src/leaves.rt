@@ -1,7 +1,6 @@
 // CRC-32, hash and its companions, trailer.
 ghost use Prim.Native.Nat.{_≤_, _<_};
 ghost use lib.ListN.{length};
-
 use crate::list;
 use crate::list::Checked;
 
@@ -46,7 +45,10 @@ pub fn hash(list: &[u8], at: usize) -> Checked
     let size = 2 + len + 72;
     let h = probe::probe_hash(key, list::number(list, numbers));
     if h != list::number(list, numbers + 32) {
-        return Checked { agrees: false, size };
+        return Checked {
+            agrees: false,
+            size,
+        };
     }
     Checked {
         agrees: slots_agree(list, h, numbers),

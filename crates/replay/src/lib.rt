@@ -5,7 +5,6 @@ mod list;
 
 ghost use Prim.Native.Nat.{_+_, _≤_, _<_};
 ghost use lib.ListN.{length};
-
 use list::Checked;
 
 pub struct Tally {

@@ -43,9 +43,10 @@ start-requires c κs = search needs
 open-blocks-requires : tie.Need-open-blocks-requires
 open-blocks-requires c κs =
     let a = c .before .before .before .before .before .before .before .before .before .before .args in
-    let p = c .before .before .before .before .before .before .before .before .before .before .pre in
-    (start-ready (a .section .now) (a .o) (p .1) (sym (c .before .before .before .before .before .pilots-inside .ensures) ∙ not-false _ (c .before .before .before .before .if1 .left)) (a .table .now) (a .scratch .now) _ _ (p .0) (c .before .before .arena-end .ensures) (c .start .ensures),
-    c .before .before .before .if2 .left)
+    let p = c .before .before .before .before .before .before .before .before .before .before .pre in (
+      start-ready (a .section .now) (a .o) (p .1) (sym (c .before .before .before .before .before .pilots-inside .ensures) ∙ not-false _ (c .before .before .before .before .if1 .left)) (a .table .now) (a .scratch .now) _ _ (p .0) (c .before .before .arena-end .ensures) (c .start .ensures),
+      c .before .before .before .if2 .left,
+    )
 
 -- src/lib.rt:487:29
 enum-known-walked : tie.Need-enum-known-walked

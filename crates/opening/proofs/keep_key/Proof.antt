@@ -47,10 +47,12 @@ loop-again : tie.Need-loop-again Inv-loop μ-loop
 loop-again c =
     let i = c .before .before .loop .inv in
     let a = c .before .before .before .args in
-    let l = c .before .before .loop in
-    (search needs, simp length-set (i .1),
-    (λ k h. getD-set-other (l .scratch) (a .half + l .done) k (getD (l .scratch) (l .done) 0) 0 (λ e. omega arith) ∙ i .2 k h),
-    keep-step _ _ _ _ _ (c .before .loop-test .taken) (omega arith) (i .2 (l .done) (omega arith)) ∙ i .3)
+    let l = c .before .before .loop in (
+      search needs,
+      simp length-set (i .1),
+      (λ k h. getD-set-other (l .scratch) (a .half + l .done) k (getD (l .scratch) (l .done) 0) 0 (λ e. omega arith) ∙ i .2 k h),
+      keep-step _ _ _ _ _ (c .before .loop-test .taken) (omega arith) (i .2 (l .done) (omega arith)) ∙ i .3,
+    )
 
 -- src/lib.rt:67:1
 same-length : tie.Need-same-length Inv-loop μ-loop

@@ -26,10 +26,11 @@ loop-holds : tie.Need-loop-holds Inv-loop μ-loop
 unfolding stateIn atStart blockOf
 loop-holds c =
     let a = c .before .before .before .before .before .args in
-    let p = c .before .before .before .before .before .pre .0 in
-    (record { table = p .table; readable = p .readable; inside = p .inside; halves = p .halves; held = record { key = omega arith; previous = p .held .previous } },
-    refl,
-    walking-start (storeWith (a .section .now) (a .«data» .now) (a .o) (a .end) (a .half)) (a .offset) (a .raw .now) (a .entries-end) (stateIn (a .half) (a .scratch .now) (a .w)))
+    let p = c .before .before .before .before .before .pre .0 in (
+      record { table = p .table; readable = p .readable; inside = p .inside; halves = p .halves; held = record { key = omega arith; previous = p .held .previous } },
+      refl,
+      walking-start (storeWith (a .section .now) (a .«data» .now) (a .o) (a .end) (a .half)) (a .offset) (a .raw .now) (a .entries-end) (stateIn (a .half) (a .scratch .now) (a .w)),
+    )
 
 -- src/lib.rt:266:13
 open-record-requires : tie.Need-open-record-requires Inv-loop μ-loop
@@ -56,10 +57,11 @@ loop-again c =
     let l = c .before .before .before .before .before .before .before .before .loop in
     let k = c .before .before .before .before .before .open-record in
     let g = c .before .opened .given .1 in
-    let e = asked-more (a .table .now) (a .section .now) (a .«data» .now) (a .o) (a .end) (a .half) (a .offset) (a .raw .now) (a .entries-end) (l .pos) (l .scratch) _ (l .carried) _ (l .inv .0) (k .kept .1 .1 .1 .1 .1 .1 .1 .1 .1 .0) (k .ensures .0) (k .ensures .1) _ _ g in
-    (ready-more (a .table .now) (a .section .now) (a .«data» .now) (a .o) (a .end) (a .half) (a .offset) (a .raw .now) (a .entries-end) (l .pos) (l .scratch) _ (l .carried) _ (l .inv .0) (k .kept .1 .1 .1 .1 .1 .1 .1 .1 .1 .0) (k .ensures .0) (k .ensures .1) _ _ g,
-    k .kept .1 .1 .1 .1 .1 .1 .1 .1 .1 .0 ∙ l .inv .1,
-    walking-more (storeWith (a .section .now) (a .«data» .now) (a .o) (a .end) (a .half)) (a .offset) (a .raw .now) (a .entries-end) _ (l .pos) _ (l .inv .2) _ _ (c .before .before .before .before .before .before .before .loop-test .taken) e)
+    let e = asked-more (a .table .now) (a .section .now) (a .«data» .now) (a .o) (a .end) (a .half) (a .offset) (a .raw .now) (a .entries-end) (l .pos) (l .scratch) _ (l .carried) _ (l .inv .0) (k .kept .1 .1 .1 .1 .1 .1 .1 .1 .1 .0) (k .ensures .0) (k .ensures .1) _ _ g in (
+      ready-more (a .table .now) (a .section .now) (a .«data» .now) (a .o) (a .end) (a .half) (a .offset) (a .raw .now) (a .entries-end) (l .pos) (l .scratch) _ (l .carried) _ (l .inv .0) (k .kept .1 .1 .1 .1 .1 .1 .1 .1 .1 .0) (k .ensures .0) (k .ensures .1) _ _ g,
+      k .kept .1 .1 .1 .1 .1 .1 .1 .1 .1 .0 ∙ l .inv .1,
+      walking-more (storeWith (a .section .now) (a .«data» .now) (a .o) (a .end) (a .half)) (a .offset) (a .raw .now) (a .entries-end) _ (l .pos) _ (l .inv .2) _ _ (c .before .before .before .before .before .before .before .loop-test .taken) e,
+    )
 
 -- src/lib.rt:285:35
 enum-known-opened-2 : tie.Need-enum-known-opened-2 Inv-loop μ-loop

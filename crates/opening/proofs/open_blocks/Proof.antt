@@ -95,10 +95,11 @@ loop-again c =
     let n : l .i + 1 < length (a .blocks .now) = omega (arith, l .inv .2 .even, c .before .before .before .before .before .before .before .before .before .before .before .before .before .before .before .before .before .pre .1, c .before .before .before .before .before .before .before .before .before .before .before .loop-test .taken) in
     let k = c .before .before .before .before .before .open-pair in
     let g = c .before .opened .given .1 in
-    let f = sym (c .before .before .before .before .before .before .before .before .pair-fits .ensures) ∙ not-false _ (c .before .before .before .before .before .before .before .if1 .left) in
-    (ready-passed (a .table .now) (a .section .now) (a .«data» .now) (a .o) (a .end) (a .half) (getD (a .blocks .now) (l .i) 0) (getD (a .blocks .now) (l .i + 1) 0) (l .scratch) _ (l .carried) _ (l .inv .0) (k .kept .1 .1 .1 .1 .1 .1 .1 .0) (k .ensures .0) (k .ensures .1) _ g,
-    k .kept .1 .1 .1 .1 .1 .1 .1 .0 ∙ l .inv .1,
-    pairing-more (storeWith (a .section .now) (a .«data» .now) (a .o) (a .end) (a .half)) (a .blocks .now) _ (l .i) (l .at) (stateIn (a .half) (l .scratch) (l .carried)) (l .inv .2) n f _ (pair-passed (a .table .now) (a .section .now) (a .«data» .now) (a .o) (a .end) (a .half) (getD (a .blocks .now) (l .i) 0) (getD (a .blocks .now) (l .i + 1) 0) (l .scratch) _ (l .carried) _ (l .inv .0) (k .kept .1 .1 .1 .1 .1 .1 .1 .0) (k .ensures .0) (k .ensures .1) _ g))
+    let f = sym (c .before .before .before .before .before .before .before .before .pair-fits .ensures) ∙ not-false _ (c .before .before .before .before .before .before .before .if1 .left) in (
+      ready-passed (a .table .now) (a .section .now) (a .«data» .now) (a .o) (a .end) (a .half) (getD (a .blocks .now) (l .i) 0) (getD (a .blocks .now) (l .i + 1) 0) (l .scratch) _ (l .carried) _ (l .inv .0) (k .kept .1 .1 .1 .1 .1 .1 .1 .0) (k .ensures .0) (k .ensures .1) _ g,
+      k .kept .1 .1 .1 .1 .1 .1 .1 .0 ∙ l .inv .1,
+      pairing-more (storeWith (a .section .now) (a .«data» .now) (a .o) (a .end) (a .half)) (a .blocks .now) _ (l .i) (l .at) (stateIn (a .half) (l .scratch) (l .carried)) (l .inv .2) n f _ (pair-passed (a .table .now) (a .section .now) (a .«data» .now) (a .o) (a .end) (a .half) (getD (a .blocks .now) (l .i) 0) (getD (a .blocks .now) (l .i + 1) 0) (l .scratch) _ (l .carried) _ (l .inv .0) (k .kept .1 .1 .1 .1 .1 .1 .1 .0) (k .ensures .0) (k .ensures .1) _ g),
+    )
 
 -- src/lib.rt:383:34
 enum-known-opened-2 : tie.Need-enum-known-opened-2 Inv-loop μ-loop

@@ -1,0 +1,21 @@
+/* The delivered interface for a linker or a loader: link libkiban.a (rt staticlib kiban).
+ * A result is 0 or the number of document 01 for the first question that is answered by no; on a refusal nothing behind
+ * a pointer changes but scratch. No entry allocates. */
+#ifndef KIBAN_H
+#define KIBAN_H
+
+#include <stddef.h>
+#include <stdint.h>
+
+/* The CRC-32 of the data: the 32-bit frame check sequence of ITU-T V.42. */
+uint32_t kiban_crc32(const uint8_t *data, size_t data_len);
+
+/* Opens a section beside its backing data and its block list (pairs of offset and length, `blocks_len` numbers in all).
+ * The scratch has room for two keys. On 0 the record holds: seed, least sequence, keys, buckets, arena start, the widths of
+ * address, key, count, sequence and value, checksums (0 or 1), scan place, packed (0), and three zeros.
+ * It takes about 9 KiB of stack, of which 8 KiB are the CRC tables. */
+uint64_t kiban_open(const uint8_t *section, size_t section_len, const uint8_t *data, size_t data_len,
+                    const uint64_t *blocks, size_t blocks_len, uint8_t *scratch, size_t scratch_len,
+                    uint64_t record[16]);
+
+#endif
