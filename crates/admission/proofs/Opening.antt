@@ -1,16 +1,16 @@
 -- A plain opening accepts exactly what the written rules admit.
 -- Assumes nothing.
-use mathlib.Core.Path.{_≡_, refl, sym, ap, _∙_, subst, subst⁻¹}
+use mathlib.Core.Path.{_≡_, refl, ap, _∙_, subst, subst⁻¹}
 use mathlib.Core.Logic.{_↔_}
 use mathlib.Core.Bool.{Bool, true, false}
 use mathlib.Core.List.{List, []}
-use Prim.Native.Nat.{ℕ, zero, suc, _+_, _*_, _%_, _<_}
+use Prim.Native.Nat.{ℕ, zero, suc, _+_, _*_, _<_}
 use native.Mathlib.Nat.{not-suc-le-zero}
 use native.Mathlib.Omega.{arith}
-use lib.Dec.{eqb, ltb}
+use lib.Dec.{eqb}
 use lib.ListN.{length}
 use borrow.Author.Tests.{eqb-true, eqb-false, eq-eqb, ltb-true, lt-ltb}
-use Rattle.num.specs.Choice.{if_then_else_, both, either}
+use Rattle.num.specs.Choice.{both}
 use Rattle.num.specs.Number.{leAt}
 use Rattle.num.proofs.Choice.{both-true, true-both, asked-where, where-asked, if-first, if-true}
 use Rattle.sstable.specs.declared.Trailer.{Trailer}
@@ -28,7 +28,7 @@ use Rattle.header.proofs.Headers.{header-facts, facts-header}
 use Rattle.arena.specs.declared.Cursor.{Cursor}
 use Rattle.opening.specs.Walk.{State, Store, Ended, ended, refused, pairsFrom}
 use Rattle.opening.specs.Open.{pilotInside, pilotsInside, startAt, endsTogether, prefixesCounted, endFor, storeOf, contentsOf, contentsFor, openFor, openOf}
-use Rattle.agreement.specs.Entries.{Progress, reached, entriesFrom, progressOf}
+use Rattle.agreement.specs.Entries.{Progress, progressOf}
 use Rattle.agreement.specs.Agrees.{Agrees, startOf}
 use Rattle.agreement.proofs.Walk.{accepted-exactly}
 use Rattle.admission.specs.Blocks.{Covers, storeEntries}

@@ -9,7 +9,6 @@ use native.Mathlib.Omega.{arith}
 use lib.Dec.{eqb, leb}
 use lib.ListN.{length}
 use borrow.Author.Tests.{eqb-true, eqb-false, eq-eqb, ne-eqb, leb-true, leb-false, le-leb}
-use Rattle.num.specs.Choice.{if_then_else_}
 use Rattle.num.specs.Number.{leAt}
 use Rattle.num.proofs.Choice.{both-true, true-both, if-first, if-true, either-second, second-either}
 use Rattle.sstable.specs.Limits.{maxKeyBytes, maxValueBytes, withinLimits}
@@ -25,6 +24,7 @@ use Rattle.agreement.specs.Keys.{addressOf, versionsOf, firstVersion, pr
 use Rattle.agreement.specs.Agrees.{startOf}
 use Rattle.agreement.proofs.Indices.{first-version-next}
 use Rattle.agreement.proofs.Visit.{Before, Within, Counted, within-last}
+use Rattle.num.specs.Choice.{if_then_else_}
 
 -- the progress behind a record, the cursor behind it given
 abbrev pub behind : Progress → Entry → Cursor → Progress

@@ -3,7 +3,6 @@ use Prim.Native.Nat.{ℕ}
 use mathlib.Core.List.{List, [], _∷_}
 use lib.Dec.{eqb, leb}
 use lib.ListN.{length}
-use Rattle.num.specs.Choice.{if_then_else_}
 use Rattle.sstable.specs.Limits.{withinLimits}
 use Rattle.block.specs.Walk.{Entry}
 use Rattle.arena.specs.declared.Cursor.{Cursor}
@@ -11,6 +10,7 @@ use Rattle.arena.specs.declared.Visited.{Visited}
 use Rattle.arena.specs.declared.Visited.the-variants as visited
 use Rattle.arena.specs.Version.{visitOf}
 use Rattle.opening.specs.Walk.{State, Store, valueOf}
+use Rattle.num.specs.Choice.{if_then_else_}
 
 -- what the walk carries from record to record: the last key of the arena, and the cursor
 pub record Progress : Type 0 where

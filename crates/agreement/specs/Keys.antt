@@ -4,7 +4,6 @@ use Prim.Native.Nat.{ℕ, zero, suc, _+_, _*_, _/_}
 use mathlib.Core.List.{List, _++_}
 use mathlib.Core.Bool.{Bool, true, not}
 use lib.ListN.{take, drop}
-use Rattle.num.specs.Choice.{if_then_else_}
 use Rattle.num.specs.Number.{leAt}
 use Rattle.num.specs.Order.{equalBytes}
 use Rattle.sstable.specs.declared.Kind.{Kind}
@@ -14,6 +13,7 @@ use Rattle.header.specs.declared.Opened.{Opened}
 use Rattle.arena.specs.declared.KeyHeader.{KeyHeader}
 use Rattle.arena.specs.Key.{keyHeaderAt}
 use Rattle.arena.specs.Version.{storedSeq, storedValue, kindIn, lengthIn, storedOffset, storedChecksum}
+use Rattle.num.specs.Choice.{if_then_else_}
 
 -- the bytes of a key record
 unfoldable pub keyRecordLen : Encoding → KeyHeader → ℕ

@@ -9,13 +9,13 @@ use native.Mathlib.Numerals.{add-one}
 use native.Mathlib.Omega.{arith}
 use lib.Pow.{shr-lt, pow-add}
 use lib.Dec.{eqb, lit<}
-use lib.ListN.{length, getD, replicate, length-append}
+use lib.ListN.{length, replicate, length-append}
 use lib.Bits.{bitXor, xor-block, xor-zero-r, xor-comm}
 use Rattle.num.specs.Choice.{if_then_else_, choice-defs}
 use Rattle.num.specs.Number.{Bytes}
 use Rattle.num.proofs.Xor.{xor-assoc, bit-ind}
 use Rattle.num.proofs.Lists.{bytes-append}
-use Rattle.crc32.specs.V42.{sum, add, bitsOf, content, numberOf, sumOfRemainders, crcOf, updateOf, finalizeOf, generator, polynomial, crc-defs}
+use Rattle.crc32.specs.V42.{sum, add, bitsOf, content, numberOf, sumOfRemainders, crcOf, updateOf, finalizeOf, crc-defs}
 use Rattle.crc32.proofs.Polynomial.{rest, length-rest, reduced, length-reduced, remainders-none, remainders-bit, length-sumOfRemainders}
 use Rattle.crc32.proofs.Register.{poly, bitStep, steps, byteStep, register, step-linear, step-even, low-high, register-append}
 

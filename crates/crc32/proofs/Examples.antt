@@ -1,6 +1,6 @@
 -- Worked values, by computation.
 use mathlib.Core.Path.{_≡_, refl}
-use mathlib.Core.List.{List, [], _∷_}
+use mathlib.Core.List.{[], _∷_}
 use Rattle.num.specs.Choice.{choice-defs}
 use Rattle.crc32.specs.V42.{crcOf, crc-defs}
 

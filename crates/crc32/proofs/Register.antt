@@ -3,13 +3,12 @@
 -- Assumes nothing.
 use mathlib.Core.Path.{_≡_, refl, sym, ap, ap₂, _∙_}
 use mathlib.Core.List.{List, [], _∷_, _++_}
-use mathlib.Core.Bool.{Bool, true, false}
 use Prim.Native.Nat.{ℕ, zero, suc, _+_, _*_, _/_, _%_, _<_, _^_}
 use native.Mathlib.Nat.{mod-lt, zero-add, suc-add}
 use native.Mathlib.Omega.{arith}
 use lib.Dec.{lit<, eqb}
 use lib.Pow.{pow-pos, split}
-use lib.Bits.{bitXor, xor-shr, xor-mod, xor-shifted, xor-comm, xor-zero-r, xor-lt, shifted-half, shifted-even}
+use lib.Bits.{bitXor, xor-shr, xor-mod, xor-shifted, xor-comm, xor-zero-r, shifted-half, shifted-even}
 use Rattle.num.specs.Choice.{if_then_else_}
 use Rattle.num.specs.Number.{leBytes}
 use Rattle.num.proofs.Number.{pow-step}

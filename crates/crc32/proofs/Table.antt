@@ -1,16 +1,15 @@
 -- The tables' rule at each entry, from the one test over the whole table, and the steps that the tables take.
 -- Assumes nothing.
 use mathlib.Core.Path.{_≡_, refl, sym, ap, ap₂, _∙_, subst}
-use mathlib.Core.Bool.{Bool, true, false}
+use mathlib.Core.Bool.{true}
 use mathlib.Core.List.{List, [], _∷_}
 use Prim.Native.Nat.{ℕ, zero, suc, _+_, _*_, _<_, _/_, _%_, _^_}
 use native.Mathlib.Nat.{add-zero, zero-add, add-suc, suc-add, le-of-suc-le-suc, not-suc-le-zero, mod-lt, mod-eq-of-lt}
 use native.Mathlib.Omega.{arith}
-use lib.Dec.{eqb, lit<}
-use lib.Bits.{bitXor, xor-comm, xor-zero-l, xor-zero-r, xor-lt}
+use lib.Dec.{lit<}
+use lib.Bits.{bitXor, xor-comm, xor-zero-r, xor-lt}
 use lib.ListN.{length, getD, replicate}
 use borrow.Author.Tests.{eqb-true}
-use Rattle.num.specs.Choice.{both}
 use Rattle.num.specs.Number.{Bytes, leBytes}
 use Rattle.num.proofs.Choice.{both-true, false-true}
 use Rattle.num.proofs.Lists.{bytes-one, bytes-zeros}

@@ -1,7 +1,7 @@
 -- The loops over the bytes, turn by turn.
 -- Assumes nothing.
 use mathlib.Core.Path.{_≡_, sym, ap, ap₂, _∙_}
-use mathlib.Core.List.{List, [], _∷_, _++_}
+use mathlib.Core.List.{List, [], _∷_}
 use Prim.Native.Nat.{ℕ, _+_, _<_, _≤_, _^_}
 use native.Mathlib.Numerals.{add-one}
 use lib.ListN.{length, getD, take, drop, take-append-drop, drop-of-length-le}

@@ -1,12 +1,12 @@
 -- An opened record as sixteen numbers, and what an opening leaves in them.
 use Prim.Native.Nat.{ℕ}
 use mathlib.Core.List.{List, [], _∷_}
-use mathlib.Core.Bool.{Bool, true, false}
+use mathlib.Core.Bool.{Bool}
 use lib.Seq.{sets}
-use Rattle.num.specs.Choice.{if_then_else_}
 use Rattle.header.specs.declared.Opened.{Opened}
 use Rattle.header.specs.declared.HeaderRead.{HeaderRead}
 use Rattle.header.specs.declared.HeaderRead.the-variants.{Accepted, Refused}
+use Rattle.num.specs.Choice.{if_then_else_}
 
 unfoldable pub flagNumber : Bool → ℕ
 flagNumber b = if b then 1 else 0

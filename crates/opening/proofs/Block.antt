@@ -7,7 +7,7 @@ use Prim.Native.Nat.{ℕ, zero, suc, _+_, _-_, _<_, _≤_}
 use native.Mathlib.Omega.{arith}
 use lib.Dec.{leb}
 use lib.ListN.{length}
-use borrow.Author.Tests.{leb-true, leb-false, le-leb, lt-leb}
+use borrow.Author.Tests.{le-leb, lt-leb}
 use Rattle.num.specs.Choice.{if_then_else_}
 use Rattle.block.specs.Walk.{Entry, Step, met, stop, stepOf}
 use Rattle.block.proofs.Step.{step-moved}

@@ -8,7 +8,7 @@ use native.Mathlib.Numerals.{add-one}
 use native.Mathlib.Omega.{arith}
 use lib.Dec.{eqb}
 use borrow.Author.Tests.{ltb-true, eqb-true, eqb-false}
-use Rattle.num.specs.Choice.{both, either}
+use Rattle.num.specs.Choice.{either}
 use Rattle.num.specs.Number.{leAt}
 use Rattle.num.proofs.Choice.{false-true, both-true, true-both}
 use Rattle.point.specs.Hash.{isDirect, directSlot}

@@ -1,12 +1,12 @@
 -- One record: the keys in the scratch, and the answer for each way through questions 13 to 21.
 -- Assumes nothing.
-use mathlib.Core.Path.{_≡_, refl, sym, ap, _∙_}
+use mathlib.Core.Path.{_≡_, sym, ap, _∙_}
 use mathlib.Core.List.{List, _++_}
 use mathlib.Core.Bool.{Bool, true, false}
 use Prim.Native.Nat.{ℕ, _+_, _-_, _<_, _≤_}
 use native.Mathlib.Omega.{arith}
-use lib.Dec.{eqb, leb}
-use lib.ListN.{length, getD, set, take, drop, length-append, length-drop}
+use lib.Dec.{eqb}
+use lib.ListN.{length, getD, set, take, drop, length-append}
 use lib.Seq.{sets, length-take-le}
 use borrow.Author.Tests.{le-leb, lt-leb, eq-eqb, ne-eqb}
 use Rattle.num.specs.Choice.{if_then_else_}
@@ -26,7 +26,7 @@ use Rattle.arena.specs.declared.Visited.the-variants as visited
 use Rattle.arena.specs.Version.{visitOf}
 use Rattle.opening.specs.declared.Carried.{Carried}
 use Rattle.opening.specs.declared.RecordOpened.the-variants.{More, Refused}
-use Rattle.opening.specs.Walk.{State, Asked, more, refused, Store, placed, valueOf, visitedAt, recordAsked, recordFor, askedAt}
+use Rattle.opening.specs.Walk.{more, refused, Store, placed, valueOf, visitedAt, recordAsked, recordFor, askedAt}
 use Rattle.opening.specs.Scratch.{storeWith, stateIn, Held, Lies, entryIn, askedFor}
 
 -- ---- the keys in the scratch

@@ -1,7 +1,7 @@
 -- Opening: questions 1 to 6, 10 to 23 in their order (document 01, "Opening, question by question").
 use Prim.Native.Nat.{ℕ, zero, suc, _+_, _*_, _/_, _%_}
 use mathlib.Core.List.{List, []}
-use mathlib.Core.Bool.{Bool, true, false, not}
+use mathlib.Core.Bool.{Bool, true, not}
 use lib.Dec.{eqb, ltb}
 use lib.ListN.{length}
 use Rattle.num.specs.Choice.{if_then_else_, both, either}
@@ -16,7 +16,7 @@ use Rattle.header.specs.declared.HeaderRead.{HeaderRead}
 use Rattle.header.specs.declared.HeaderRead.the-variants.{Accepted, Refused}
 use Rattle.header.specs.Header.{headerOf, arenaEnd}
 use Rattle.arena.specs.declared.Cursor.{Cursor}
-use Rattle.opening.specs.Walk.{State, Store, Ended, ended, refused, pairsFrom}
+use Rattle.opening.specs.Walk.{Store, Ended, ended, refused, pairsFrom}
 
 -- question 10 of one pilot: is a direct pilot's slot below n?
 unfoldable pub pilotInside : List ℕ → Opened → ℕ → Bool

@@ -1,12 +1,11 @@
 -- The walk over pairs, blocks and records: questions 11 to 21 in their order.
-use Prim.Native.Nat.{ℕ, zero, suc, _+_, _-_}
+use Prim.Native.Nat.{ℕ, zero, suc, _+_}
 use mathlib.Core.List.{List, [], _∷_}
 use mathlib.Core.Bool.{Bool, true, false}
 use lib.Dec.{eqb, leb}
 use lib.ListN.{length, take, drop}
 use Rattle.num.specs.Choice.{if_then_else_, both}
 use Rattle.sstable.specs.Limits.{withinLimits}
-use Rattle.block.specs.declared.BlockMeta.{BlockMeta}
 use Rattle.block.specs.declared.Verified.{Verified}
 use Rattle.block.specs.declared.Verified.the-variants.{Sound, Unsound}
 use Rattle.block.specs.Verify.{verifyOf}

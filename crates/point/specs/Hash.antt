@@ -5,9 +5,9 @@ use mathlib.Core.List.{List}
 use lib.Bits.{bitXor}
 use lib.Dec.{leb}
 use lib.ListN.{length}
-use Rattle.num.specs.Choice.{if_then_else_}
 use Rattle.num.specs.Number.{leAt}
 use Rattle.num.specs.Wrapping.{mulMod, rotl}
+use Rattle.num.specs.Choice.{if_then_else_}
 
 -- `STEP` of point.rs
 abbrev pub step : ℕ

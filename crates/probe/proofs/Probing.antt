@@ -1,10 +1,9 @@
 -- The probes' definitions, case by case.
 -- Assumes nothing.
-use mathlib.Core.Path.{_≡_, refl, sym, ap, _∙_}
+use mathlib.Core.Path.{_≡_}
 use mathlib.Core.List.{List, [], _∷_}
-use mathlib.Core.Bool.{Bool, true, false}
+use mathlib.Core.Bool.{true, false}
 use Prim.Native.Nat.{ℕ, _+_, _-_, _<_, _≤_, _^_}
-use lib.Dec.{eqb, leb}
 use lib.ListN.{length, take, drop}
 use lib.Seq.{sets}
 use borrow.Author.Tests.{le-leb, lt-leb, leb-true, eq-eqb, ne-eqb}

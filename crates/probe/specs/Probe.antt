@@ -2,15 +2,13 @@
 use Prim.Native.Nat.{ℕ, _+_, _-_, _^_}
 use mathlib.Core.List.{List, [], _∷_}
 use mathlib.Core.Bool.{Bool}
-use lib.Dec.{eqb, leb, ltb}
+use lib.Dec.{eqb, leb}
 use lib.ListN.{length, getD, take, drop}
 use lib.Seq.{sets}
 use Rattle.num.specs.Choice.{if_then_else_, both, either}
 use Rattle.sstable.specs.Kind.{kindNumber}
-use Rattle.block.specs.declared.BlockMeta.{BlockMeta}
 use Rattle.block.specs.declared.Verified.{Verified}
 use Rattle.block.specs.declared.Verified.the-variants.{Sound, Unsound}
-use Rattle.block.specs.declared.Record.{Record}
 use Rattle.block.specs.declared.Stepped.{Stepped}
 use Rattle.block.specs.declared.Stepped.the-variants.{Met, Stopped}
 use Rattle.block.specs.Record.{recordOf}

@@ -1,11 +1,11 @@
 -- The kinds of a record and their numbers in blocks.
 use Prim.Native.Nat.{ℕ}
 use lib.Dec.{eqb}
-use Rattle.num.specs.Choice.{if_then_else_}
 use Rattle.sstable.specs.declared.Kind.{Kind}
 use Rattle.sstable.specs.declared.Kind.the-variants.{Put, Tombstone}
 use Rattle.sstable.specs.declared.KindRead.{KindRead}
 use Rattle.sstable.specs.declared.KindRead.the-variants.{Known, Unknown}
+use Rattle.num.specs.Choice.{if_then_else_}
 
 unfoldable pub kindNumber : Kind → ℕ
 kindNumber Put = 1

@@ -4,20 +4,13 @@ use Rattle.crc32.proofs.Division.{crc-update}
 use borrow.Author.Needs.{needs}
 use Rattle.crc32.proofs.crc32.Statement.{statement}
 use Rattle.crc32.proofs.crc32.Tie as tie
-use Rattle.crc32.proofs.crc32.Reads as reads
-use Rattle.crc32.proofs.crc32.Lts as lts
-use Rattle.crc32.proofs.finalize.Reads as finalize-reads
-use Rattle.crc32.proofs.update.Reads as update-reads
 
--- src/lib.rt:105:14
 update-requires : tie.Need-update-requires
 update-requires c κs = search needs
 
--- src/lib.rt:105:5
 finalize-requires : tie.Need-finalize-requires
 finalize-requires c κs = search needs
 
--- src/lib.rt:102:1
 returns : tie.Need-returns
 returns c = c .finalize .ensures ∙ ap finalizeOf (c .before .update .ensures) ∙ sym (crc-update _)
 

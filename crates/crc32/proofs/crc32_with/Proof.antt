@@ -4,20 +4,13 @@ use Rattle.crc32.proofs.Division.{crc-update}
 use borrow.Author.Needs.{needs}
 use Rattle.crc32.proofs.crc32_with.Statement.{statement}
 use Rattle.crc32.proofs.crc32_with.Tie as tie
-use Rattle.crc32.proofs.crc32_with.Reads as reads
-use Rattle.crc32.proofs.crc32_with.Lts as lts
-use Rattle.crc32.proofs.finalize.Reads as finalize-reads
-use Rattle.crc32.proofs.update_with.Reads as update-with-reads
 
--- src/lib.rt:86:14
 update-with-requires : tie.Need-update-with-requires
 update-with-requires c κs = search needs
 
--- src/lib.rt:86:5
 finalize-requires : tie.Need-finalize-requires
 finalize-requires c κs = search needs
 
--- src/lib.rt:82:1
 returns : tie.Need-returns
 returns c = c .finalize .ensures ∙ ap finalizeOf (c .before .update-with .ensures) ∙ sym (crc-update _)
 

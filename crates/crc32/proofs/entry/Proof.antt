@@ -2,26 +2,19 @@ use Rattle.crc32.proofs.Table.{table-at}
 use borrow.Author.Needs.{needs}
 use Rattle.crc32.proofs.entry.Statement.{statement}
 use Rattle.crc32.proofs.entry.Tie as tie
-use Rattle.crc32.proofs.entry.Reads as reads
-use Rattle.crc32.proofs.entry.Lts as lts
 
--- src/lib.rt:20:5
 mul-result : tie.Need-mul-result
 mul-result c = search needs
 
--- src/lib.rt:20:5
 mul-result-2 : tie.Need-mul-result-2
 mul-result-2 c = search needs
 
--- src/lib.rt:20:5
 index-1-result : tie.Need-index-1-result
 index-1-result c = search needs
 
--- src/lib.rt:20:5
 index-2-result : tie.Need-index-2-result
 index-2-result c = search needs
 
--- src/lib.rt:15:1
 returns : tie.Need-returns
 returns c =
     let a = c .before in

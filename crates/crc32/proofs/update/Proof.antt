@@ -5,16 +5,11 @@ use Rattle.crc32.specs.Table.{table-defs}
 use borrow.Author.Needs.{needs}
 use Rattle.crc32.proofs.update.Statement.{statement}
 use Rattle.crc32.proofs.update.Tie as tie
-use Rattle.crc32.proofs.update.Reads as reads
-use Rattle.crc32.proofs.update.Lts as lts
-use Rattle.crc32.proofs.update_with.Reads as update-with-reads
 
--- src/lib.rt:93:5
 update-with-requires : tie.Need-update-with-requires
 unfolding crc-defs choice-defs table-defs
 update-with-requires c κs = refl
 
--- src/lib.rt:89:1
 returns : tie.Need-returns
 returns c = search needs
 

@@ -2,24 +2,16 @@ use Rattle.crc32.proofs.Table.{one-law}
 use borrow.Author.Needs.{needs}
 use Rattle.crc32.proofs.update_byte.Statement.{statement}
 use Rattle.crc32.proofs.update_byte.Tie as tie
-use Rattle.crc32.proofs.update_byte.Reads as reads
-use Rattle.crc32.proofs.update_byte.Lts as lts
-use Rattle.crc32.proofs.entry.Reads as entry-reads
-use Rattle.num.proofs.widen.Reads as widen-reads
 
--- src/lib.rt:48:30
 widen-requires : tie.Need-widen-requires
 widen-requires c κs = search needs
 
--- src/lib.rt:49:16
 cast-high : tie.Need-cast-high
 cast-high c = search needs
 
--- src/lib.rt:50:5
 entry-requires : tie.Need-entry-requires
 entry-requires c κs = search needs
 
--- src/lib.rt:44:1
 returns : tie.Need-returns
 returns c =
     let a = c .before .before in

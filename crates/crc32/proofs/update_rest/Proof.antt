@@ -7,9 +7,6 @@ use Rattle.crc32.proofs.Walk.{byte-step, done}
 use borrow.Author.Needs.{needs}
 use Rattle.crc32.proofs.update_rest.Statement.{statement}
 use Rattle.crc32.proofs.update_rest.Tie as tie
-use Rattle.crc32.proofs.update_rest.Reads as reads
-use Rattle.crc32.proofs.update_rest.Lts as lts
-use Rattle.crc32.proofs.update_byte.Reads as update-byte-reads
 
 abbrev Inv-loop : tie.InvT-loop
 Inv-loop table state «data» at c₀ i₀ c i = (c < 2 ^ 32) × (updateOf c (drop i «data») ≡ updateOf state (drop at «data»))
@@ -17,27 +14,21 @@ Inv-loop table state «data» at c₀ i₀ c i = (c < 2 ^ 32) × (updateOf c (dr
 abbrev μ-loop : tie.MeasureT-loop
 μ-loop table state «data» at c₀ i₀ c i = length «data» - i
 
--- src/lib.rt:60:5
 loop-holds : tie.Need-loop-holds Inv-loop μ-loop
 loop-holds c = (c .before .fits .state .fits, refl)
 
--- src/lib.rt:61:27
 shared-slice-read-update-byte : tie.Need-shared-slice-read-update-byte Inv-loop μ-loop
 shared-slice-read-update-byte c = search needs
 
--- src/lib.rt:61:9
 update-byte-requires : tie.Need-update-byte-requires Inv-loop μ-loop
 update-byte-requires c κs = search needs
 
--- src/lib.rt:62:9
 add-i : tie.Need-add-i Inv-loop μ-loop
 add-i c = search needs
 
--- src/lib.rt:60:5
 loop-less : tie.Need-loop-less Inv-loop μ-loop
 loop-less c = search needs
 
--- src/lib.rt:60:5
 loop-again : tie.Need-loop-again Inv-loop μ-loop
 loop-again c =
     let l = c .before .before .before in
@@ -49,7 +40,6 @@ loop-again c =
           ∙ l .loop .inv .1,
     )
 
--- src/lib.rt:54:1
 returns : tie.Need-returns Inv-loop μ-loop
 returns c =
     let l = c .before in

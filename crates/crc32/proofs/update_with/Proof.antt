@@ -8,11 +8,6 @@ use Rattle.crc32.proofs.Walk.{word-step}
 use borrow.Author.Needs.{needs}
 use Rattle.crc32.proofs.update_with.Statement.{statement}
 use Rattle.crc32.proofs.update_with.Tie as tie
-use Rattle.crc32.proofs.update_with.Reads as reads
-use Rattle.crc32.proofs.update_with.Lts as lts
-use Rattle.crc32.proofs.update_word.Reads as update-word-reads
-use Rattle.crc32.proofs.update_rest.Reads as update-rest-reads
-use Rattle.num.proofs.u64_at.Reads as u64-at-reads
 
 abbrev Inv-loop : tie.InvT-loop
 Inv-loop table state «data» c₀ i₀ c i = (i ≤ length «data») × (c < 2 ^ 32) × (updateOf c (drop i «data») ≡ updateOf state «data»)
@@ -20,31 +15,24 @@ Inv-loop table state «data» c₀ i₀ c i = (i ≤ length «data») × (c < 2 
 abbrev μ-loop : tie.MeasureT-loop
 μ-loop table state «data» c₀ i₀ c i = length «data» - i
 
--- src/lib.rt:74:5
 loop-holds : tie.Need-loop-holds Inv-loop μ-loop
 loop-holds c = (search needs, c .before .fits .state .fits, refl)
 
--- src/lib.rt:74:16
 sub-loop : tie.Need-sub-loop Inv-loop μ-loop
 sub-loop c = search needs
 
--- src/lib.rt:75:29
 u64-at-requires : tie.Need-u64-at-requires Inv-loop μ-loop
 u64-at-requires c κs = search needs
 
--- src/lib.rt:75:9
 update-word-requires : tie.Need-update-word-requires Inv-loop μ-loop
 update-word-requires c κs = search needs
 
--- src/lib.rt:76:9
 add-i : tie.Need-add-i Inv-loop μ-loop
 add-i c = search needs
 
--- src/lib.rt:74:5
 loop-less : tie.Need-loop-less Inv-loop μ-loop
 loop-less c = search needs
 
--- src/lib.rt:74:5
 loop-again : tie.Need-loop-again Inv-loop μ-loop
 loop-again c =
     let l = c .before .before .before in
@@ -57,11 +45,9 @@ loop-again c =
           ∙ l .loop .inv .2,
     )
 
--- src/lib.rt:78:5
 update-rest-requires : tie.Need-update-rest-requires Inv-loop μ-loop
 update-rest-requires c κs = search needs
 
--- src/lib.rt:68:1
 returns : tie.Need-returns Inv-loop μ-loop
 returns c = c .update-rest .ensures ∙ c .before .before .loop .inv .2
 

@@ -5,43 +5,31 @@ use Rattle.crc32.proofs.Table.{tables, entry-steps, eight-tables}
 use borrow.Author.Needs.{needs}
 use Rattle.crc32.proofs.update_word.Statement.{statement}
 use Rattle.crc32.proofs.update_word.Tie as tie
-use Rattle.crc32.proofs.update_word.Reads as reads
-use Rattle.crc32.proofs.update_word.Lts as lts
-use Rattle.crc32.proofs.entry.Reads as entry-reads
 
--- src/lib.rt:36:16
 entry-requires : tie.Need-entry-requires
 entry-requires c κs = search needs
 
--- src/lib.rt:37:12
 entry-requires-2 : tie.Need-entry-requires-2
 entry-requires-2 c κs = search needs
 
--- src/lib.rt:37:41
 entry-requires-3 : tie.Need-entry-requires-3
 entry-requires-3 c κs = search needs
 
--- src/lib.rt:37:69
 entry-requires-4 : tie.Need-entry-requires-4
 entry-requires-4 c κs = search needs
 
--- src/lib.rt:38:5
 entry-requires-5 : tie.Need-entry-requires-5
 entry-requires-5 c κs = search needs
 
--- src/lib.rt:39:12
 entry-requires-6 : tie.Need-entry-requires-6
 entry-requires-6 c κs = search needs
 
--- src/lib.rt:40:16
 entry-requires-7 : tie.Need-entry-requires-7
 entry-requires-7 c κs = search needs
 
--- src/lib.rt:40:45
 entry-requires-8 : tie.Need-entry-requires-8
 entry-requires-8 c κs = search needs
 
--- src/lib.rt:24:1
 returns : tie.Need-returns
 unfolding tables
 returns c =

@@ -5,8 +5,6 @@ use native.Mathlib.Omega.{arith}
 use borrow.Author.Needs.{needs}
 use Rattle.crc_vectors.proofs.count_up.Statement.{statement}
 use Rattle.crc_vectors.proofs.count_up.Tie as tie
-use Rattle.crc_vectors.proofs.count_up.Reads as reads
-use Rattle.crc_vectors.proofs.count_up.Lts as lts
 
 abbrev Inv-loop : tie.InvT-loop
 Inv-loop out₀ i₀ out i = (i ≤ length out) × (length out ≡ length out₀)
@@ -14,35 +12,27 @@ Inv-loop out₀ i₀ out i = (i ≤ length out) × (length out ≡ length out₀
 abbrev μ-loop : tie.MeasureT-loop
 μ-loop out₀ i₀ out i = length out₀ - i
 
--- src/main.rt:17:5
 loop-holds : tie.Need-loop-holds Inv-loop μ-loop
 loop-holds c = (search needs, refl)
 
--- src/main.rt:18:18
 cast-out : tie.Need-cast-out Inv-loop μ-loop
 cast-out c = search needs
 
--- src/main.rt:18:9
 slice-write-out : tie.Need-slice-write-out Inv-loop μ-loop
 slice-write-out c = search needs
 
--- src/main.rt:19:9
 add-i : tie.Need-add-i Inv-loop μ-loop
 add-i c = search needs
 
--- src/main.rt:17:5
 loop-less : tie.Need-loop-less Inv-loop μ-loop
 loop-less c = search needs
 
--- src/main.rt:17:5
 loop-again : tie.Need-loop-again Inv-loop μ-loop
 loop-again c = (simp length-set (omega arith), simp length-set (c .before .loop .inv .1))
 
--- src/main.rt:15:1
 same-length : tie.Need-same-length Inv-loop μ-loop
 same-length c = search needs
 
--- src/main.rt:15:1
 returns : tie.Need-returns Inv-loop μ-loop
 returns c = search needs
 

@@ -2,9 +2,6 @@ use Prim.Native.Nat.{_≤_, _-_, _+_}
 use borrow.Author.Needs.{needs}
 use Rattle.crc_vectors.proofs.lines_to.Statement.{statement}
 use Rattle.crc_vectors.proofs.lines_to.Tie as tie
-use Rattle.crc_vectors.proofs.lines_to.Reads as reads
-use Rattle.crc_vectors.proofs.lines_to.Lts as lts
-use Rattle.crc_vectors.proofs.line.Reads as line-reads
 
 abbrev Inv-loop : tie.InvT-loop
 Inv-loop «data» most n₀ n = n ≤ most + 1
@@ -12,39 +9,30 @@ Inv-loop «data» most n₀ n = n ≤ most + 1
 abbrev μ-loop : tie.MeasureT-loop
 μ-loop «data» most n₀ n = most + 1 - n
 
--- src/main.rt:27:5
 loop-holds : tie.Need-loop-holds Inv-loop μ-loop
 loop-holds c = search needs
 
--- src/main.rt:28:14
 sub-line : tie.Need-sub-line Inv-loop μ-loop
 sub-line c = search needs
 
--- src/main.rt:28:14
 part-line-start : tie.Need-part-line-start Inv-loop μ-loop
 part-line-start c = search needs
 
--- src/main.rt:28:14
 part-line-end : tie.Need-part-line-end Inv-loop μ-loop
 part-line-end c = search needs
 
--- src/main.rt:28:9
 line-requires : tie.Need-line-requires Inv-loop μ-loop
 line-requires c κs = search needs
 
--- src/main.rt:29:9
 add-n : tie.Need-add-n Inv-loop μ-loop
 add-n c = search needs
 
--- src/main.rt:27:5
 loop-less : tie.Need-loop-less Inv-loop μ-loop
 loop-less c = search needs
 
--- src/main.rt:27:5
 loop-again : tie.Need-loop-again Inv-loop μ-loop
 loop-again c = search needs
 
--- src/main.rt:23:1
 returns : tie.Need-returns Inv-loop μ-loop
 returns c = search needs
 

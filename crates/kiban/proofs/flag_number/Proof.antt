@@ -2,15 +2,11 @@ use Rattle.num.specs.Choice.{if_then_else_}
 use Rattle.kiban.specs.Record.{flagNumber}
 use Rattle.kiban.proofs.flag_number.Statement.{statement}
 use Rattle.kiban.proofs.flag_number.Tie as tie
-use Rattle.kiban.proofs.flag_number.Reads as reads
-use Rattle.kiban.proofs.flag_number.Lts as lts
 
--- src/lib.rt:21:1
 returns : tie.Need-returns
 unfolding flagNumber if_then_else_
 returns c = rw (c .if1 .taken)
 
--- src/lib.rt:21:1
 returns-2 : tie.Need-returns-2
 unfolding flagNumber if_then_else_
 returns-2 c = rw (c .if1 .left)

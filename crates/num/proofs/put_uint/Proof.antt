@@ -8,8 +8,6 @@ use Rattle.num.specs.Number.{leBytes}
 use Rattle.num.proofs.Number.{put-step, put-done}
 use Rattle.num.proofs.put_uint.Statement.{statement}
 use Rattle.num.proofs.put_uint.Tie as tie
-use Rattle.num.proofs.put_uint.Reads as reads
-use Rattle.num.proofs.put_uint.Lts as lts
 
 abbrev Inv-loop : tie.InvT-loop
 Inv-loop out₀ at width value v₀ i₀ out v i = (i ≤ width) × (length out ≡ length out₀) × (sets out (at + i) (leBytes (width - i) v) ≡ sets out₀ at (leBytes width value))
@@ -17,41 +15,32 @@ Inv-loop out₀ at width value v₀ i₀ out v i = (i ≤ width) × (length out 
 abbrev μ-loop : tie.MeasureT-loop
 μ-loop out₀ at width value v₀ i₀ out v i = width - i
 
--- src/lib.rt:89:5
 loop-holds : tie.Need-loop-holds Inv-loop μ-loop
 loop-holds c = (search needs, refl, rw (add-zero, sub-zero))
 
--- src/lib.rt:90:23
 cast-out : tie.Need-cast-out Inv-loop μ-loop
 cast-out c = search needs
 
--- src/lib.rt:90:13
 add-out : tie.Need-add-out Inv-loop μ-loop
 add-out c = search needs
 
--- src/lib.rt:90:9
 slice-write-out : tie.Need-slice-write-out Inv-loop μ-loop
 slice-write-out c = search needs
 
--- src/lib.rt:92:9
 add-i : tie.Need-add-i Inv-loop μ-loop
 add-i c = search needs
 
--- src/lib.rt:89:5
 loop-less : tie.Need-loop-less Inv-loop μ-loop
 loop-less c = search needs
 
--- src/lib.rt:89:5
 loop-again : tie.Need-loop-again Inv-loop μ-loop
 loop-again c =
     let i = c .before .loop .inv in
     (search needs, simp length-set (i .1), put-step _ _ _ _ _ (c .loop-test .taken) ∙ i .2)
 
--- src/lib.rt:83:1
 same-length : tie.Need-same-length Inv-loop μ-loop
 same-length c = search needs
 
--- src/lib.rt:83:1
 returns : tie.Need-returns Inv-loop μ-loop
 returns c =
     let i = c .before .loop .inv in

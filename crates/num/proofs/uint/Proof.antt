@@ -5,52 +5,36 @@ use Rattle.num.proofs.Number.{leAt-one, width-8}
 use borrow.Author.Needs.{needs}
 use Rattle.num.proofs.uint.Statement.{statement}
 use Rattle.num.proofs.uint.Tie as tie
-use Rattle.num.proofs.uint.Reads as reads
-use Rattle.num.proofs.uint.Lts as lts
-use Rattle.num.proofs.u16_at.Reads as u16-at-reads
-use Rattle.num.proofs.u32_at.Reads as u32-at-reads
-use Rattle.num.proofs.u64_at.Reads as u64-at-reads
-use Rattle.num.proofs.widen.Reads as widen-reads
 
--- src/lib.rt:69:21
 shared-slice-read-widen : tie.Need-shared-slice-read-widen
 shared-slice-read-widen c = search needs
 
--- src/lib.rt:69:9
 widen-requires : tie.Need-widen-requires
 widen-requires c κs = search needs
 
--- src/lib.rt:69:9
 returns : tie.Need-returns
 returns c = c .widen .ensures .0 ∙ sym (leAt-one _ _) ∙ ap (leAt _ _) (sym (c .before .before .if1 .taken))
 
--- src/lib.rt:72:9
 u16-at-requires : tie.Need-u16-at-requires
 u16-at-requires c κs = search needs
 
--- src/lib.rt:72:9
 returns-2 : tie.Need-returns-2
 returns-2 c = c .u16-at .ensures .0 ∙ ap (leAt _ _) (sym (c .before .if2 .taken))
 
--- src/lib.rt:75:16
 u32-at-requires : tie.Need-u32-at-requires
 u32-at-requires c κs = search needs
 
--- src/lib.rt:75:16
 cast-result : tie.Need-cast-result
 cast-result c = search needs
 
--- src/lib.rt:75:9
 returns-3 : tie.Need-returns-3
 returns-3 c = c .u32-at .ensures ∙ ap (leAt _ _) (sym (c .before .if3 .taken))
 
--- src/lib.rt:77:5
 u64-at-requires : tie.Need-u64-at-requires
 u64-at-requires c κs =
     let a = c .before .before .before .before in
     omega (arith, width-8 (a .args .width) (a .pre .1) (c .before .before .if1 .left) (c .before .if2 .left) (c .if3 .left))
 
--- src/lib.rt:64:1
 returns-4 : tie.Need-returns-4
 returns-4 c =
     let a = c .before .before .before .before .before in

@@ -5,31 +5,22 @@ use Rattle.num.proofs.Product.{below, halves}
 use borrow.Author.Needs.{needs}
 use Rattle.num.proofs.wrapping_mul.Statement.{statement}
 use Rattle.num.proofs.wrapping_mul.Tie as tie
-use Rattle.num.proofs.wrapping_mul.Reads as reads
-use Rattle.num.proofs.wrapping_mul.Lts as lts
-use Rattle.std.proofs.num.wrapping_add_u64.Reads as wrapping-add-u64-reads
 
--- src/lib.rt:18:44
 mul-wrapping-add-u64 : tie.Need-mul-wrapping-add-u64
 mul-wrapping-add-u64 c = record { fits = below 32 (omega arith) (omega arith) }
 
--- src/lib.rt:18:53
 mul-wrapping-add-u64-2 : tie.Need-mul-wrapping-add-u64-2
 mul-wrapping-add-u64-2 c = record { fits = below 32 (omega arith) (omega arith) }
 
--- src/lib.rt:18:9
 wrapping-add-u64-requires : tie.Need-wrapping-add-u64-requires
 wrapping-add-u64-requires c κs = search needs
 
--- src/lib.rt:19:32
 mul-wrapping-add-u64-3 : tie.Need-mul-wrapping-add-u64-3
 mul-wrapping-add-u64-3 c = record { fits = below 32 (omega arith) (omega arith) }
 
--- src/lib.rt:19:5
 wrapping-add-u64-requires-2 : tie.Need-wrapping-add-u64-requires-2
 wrapping-add-u64-requires-2 c κs = search needs
 
--- src/lib.rt:11:1
 returns : tie.Need-returns
 returns c =
     let a = c .before .before .args in

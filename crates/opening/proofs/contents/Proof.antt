@@ -1,45 +1,32 @@
-use mathlib.Core.Path.{_≡_, refl, sym, _∙_}
+use mathlib.Core.Path.{refl, sym, _∙_}
 use lib.ListN.{length}
 use borrow.Author.Tests.{not-true, not-false}
 use Rattle.opening.proofs.Accepted.{accepted-long, pilots-fit, accepted-readable, start-ready, contents-10, contents-odd, contents-refused, contents-ended}
 use borrow.Author.Needs.{needs}
 use Rattle.opening.proofs.contents.Statement.{statement}
 use Rattle.opening.proofs.contents.Tie as tie
-use Rattle.opening.proofs.contents.Reads as reads
-use Rattle.opening.proofs.contents.Lts as lts
-use Rattle.opening.proofs.arena_end.Reads as arena-end-reads
-use Rattle.opening.proofs.finish.Reads as finish-reads
-use Rattle.opening.proofs.open_blocks.Reads as open-blocks-reads
-use Rattle.opening.proofs.pilots_inside.Reads as pilots-inside-reads
-use Rattle.opening.proofs.start.Reads as start-reads
 
--- src/lib.rt:477:9
 pilots-inside-requires : tie.Need-pilots-inside-requires
 pilots-inside-requires c κs = pilots-fit _ _ (c .before .before .before .before .pre .1)
 
--- src/lib.rt:478:9
 returns : tie.Need-returns
 returns c =
     let a = c .before .before .before .before .before .before .args in
     let p = c .before .before .before .before .before .before .pre in
     (contents-10 (a .section .now) (a .«data» .now) (a .blocks .now) (length (a .scratch .now)) (a .o) (sym (c .before .pilots-inside .ensures) ∙ not-true _ (c .if1 .taken)), refl)
 
--- src/lib.rt:481:9
 returns-2 : tie.Need-returns-2
 returns-2 c =
     let a = c .before .before .before .before .before .before .before .args in
     let p = c .before .before .before .before .before .before .before .pre in
     (contents-odd (a .section .now) (a .«data» .now) (a .blocks .now) (length (a .scratch .now)) (a .o) (sym (c .before .before .pilots-inside .ensures) ∙ not-false _ (c .before .if1 .left)) (c .if2 .taken), refl)
 
--- src/lib.rt:483:9
 arena-end-requires : tie.Need-arena-end-requires
 arena-end-requires c κs = accepted-long _ _ (c .before .before .before .before .before .before .before .pre .1)
 
--- src/lib.rt:485:83
 start-requires : tie.Need-start-requires
 start-requires c κs = search needs
 
--- src/lib.rt:485:9
 open-blocks-requires : tie.Need-open-blocks-requires
 open-blocks-requires c κs =
     let a = c .before .before .before .before .before .before .before .before .before .before .args in
@@ -48,37 +35,30 @@ open-blocks-requires c κs =
       c .before .before .before .if2 .left,
     )
 
--- src/lib.rt:487:29
 enum-known-walked : tie.Need-enum-known-walked
 enum-known-walked c = search needs
 
--- src/lib.rt:489:13
 finish-requires : tie.Need-finish-requires
 finish-requires c κs =
     let a = c .before .before .before .before .before .before .before .before .before .before .before .before .before .before .before .before .before .args in
     let p = c .before .before .before .before .before .before .before .before .before .before .before .before .before .before .before .before .before .pre in
     accepted-readable (a .section .now) (a .o) (p .1) (sym (c .before .before .before .before .before .before .before .before .before .before .before .before .pilots-inside .ensures) ∙ not-false _ (c .before .before .before .before .before .before .before .before .before .before .before .if1 .left))
 
--- src/lib.rt:491:31
 enum-known-walked-2 : tie.Need-enum-known-walked-2
 enum-known-walked-2 c = search needs
 
--- src/lib.rt:466:1
 same-length : tie.Need-same-length
 same-length c = search needs
 
--- src/lib.rt:466:1
 returns-3 : tie.Need-returns-3
 returns-3 c =
     let a = c .before .before .before .before .before .before .before .before .before .before .before .before .before .before .before .before .before .before .args in
     let p = c .before .before .before .before .before .before .before .before .before .before .before .before .before .before .before .before .before .before .pre in
     (c .finish .ensures ∙ contents-ended (a .section .now) (a .«data» .now) (a .blocks .now) (length (a .scratch .now)) (a .o) (sym (c .before .before .before .before .before .before .before .before .before .before .before .before .before .pilots-inside .ensures) ∙ not-false _ (c .before .before .before .before .before .before .before .before .before .before .before .before .if1 .left)) (c .before .before .before .before .before .before .before .before .before .before .before .if2 .left) _ (c .before .before .before .before .before .before .before .before .before .before .arena-end .ensures) _ (c .before .before .before .before .before .before .before .before .start .ensures) (a .scratch .now) _ _ (c .before .before .before .before .before .before .before .open-blocks .ensures) _ _ (c .before .before .before .walked .given .1), c .before .before .before .before .before .before .before .open-blocks .kept .1 .1 .1 .1 .1 .1 .0)
 
--- src/lib.rt:466:1
 same-length-2 : tie.Need-same-length-2
 same-length-2 c = search needs
 
--- src/lib.rt:466:1
 returns-4 : tie.Need-returns-4
 returns-4 c =
     let a = c .before .before .before .before .before .before .before .before .before .before .before .before .before .before .before .before .args in

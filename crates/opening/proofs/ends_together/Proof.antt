@@ -3,22 +3,16 @@ use borrow.Author.Tests.{eq-eqb, ne-eqb}
 use Rattle.num.proofs.Choice.{both-no, both-yes}
 use Rattle.opening.proofs.ends_together.Statement.{statement}
 use Rattle.opening.proofs.ends_together.Tie as tie
-use Rattle.opening.proofs.ends_together.Reads as reads
-use Rattle.opening.proofs.ends_together.Lts as lts
 
--- src/lib.rt:396:9
 returns : tie.Need-returns
 returns c = both-no _ _ (ne-eqb _ _ (c .if1 .taken))
 
--- src/lib.rt:399:9
 returns-2 : tie.Need-returns-2
 returns-2 c = both-yes _ _ _ (eq-eqb _ _ (c .before .before .if1 .left)) (both-no _ _ (ne-eqb _ _ (c .if2 .taken)))
 
--- src/lib.rt:402:9
 returns-3 : tie.Need-returns-3
 returns-3 c = both-yes _ _ _ (eq-eqb _ _ (c .before .before .before .before .if1 .left)) (both-yes _ _ _ (eq-eqb _ _ (c .before .before .if2 .left)) (both-no _ _ (ne-eqb _ _ (c .if3 .taken))))
 
--- src/lib.rt:392:1
 returns-4 : tie.Need-returns-4
 returns-4 c = both-yes _ _ _ (eq-eqb _ _ (c .before .before .before .before .before .before .if1 .left)) (both-yes _ _ _ (eq-eqb _ _ (c .before .before .before .before .if2 .left)) (both-yes _ _ _ (eq-eqb _ _ (c .before .before .if3 .left)) refl))
 

@@ -5,30 +5,21 @@ use Rattle.opening.specs.Open.{endsTogether, prefixesCounted, endFor}
 use borrow.Author.Needs.{needs}
 use Rattle.opening.proofs.finish.Statement.{statement}
 use Rattle.opening.proofs.finish.Tie as tie
-use Rattle.opening.proofs.finish.Reads as reads
-use Rattle.opening.proofs.finish.Lts as lts
-use Rattle.opening.proofs.ends_together.Reads as ends-together-reads
-use Rattle.opening.proofs.prefixes_counted.Reads as prefixes-counted-reads
 
--- src/lib.rt:423:9
 ends-together-requires : tie.Need-ends-together-requires
 ends-together-requires c κs = search needs
 
--- src/lib.rt:424:9
 returns : tie.Need-returns
 unfolding endFor endsTogether prefixesCounted
 returns c = if-no _ _ _ _ (sym (c .before .ends-together .ensures) ∙ not-true _ (c .if1 .taken)) refl
 
--- src/lib.rt:426:9
 prefixes-counted-requires : tie.Need-prefixes-counted-requires
 prefixes-counted-requires c κs = search needs
 
--- src/lib.rt:427:9
 returns-2 : tie.Need-returns-2
 unfolding endFor endsTogether prefixesCounted
 returns-2 c = if-yes _ _ _ _ (sym (c .before .before .before .ends-together .ensures) ∙ not-false _ (c .before .before .if1 .left)) (if-no _ _ _ _ (sym (c .before .prefixes-counted .ensures) ∙ not-true _ (c .if2 .taken)) refl)
 
--- src/lib.rt:419:1
 returns-3 : tie.Need-returns-3
 unfolding endFor endsTogether prefixesCounted
 returns-3 c = if-yes _ _ _ _ (sym (c .before .before .before .ends-together .ensures) ∙ not-false _ (c .before .before .if1 .left)) (if-yes _ _ _ _ (sym (c .before .prefixes-counted .ensures) ∙ not-false _ (c .if2 .left)) refl)

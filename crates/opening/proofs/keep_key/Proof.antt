@@ -1,16 +1,14 @@
 use Rattle.opening.proofs.Record.{keep-step}
-use mathlib.Core.Path.{_≡_, refl, sym, ap, _∙_}
+use mathlib.Core.Path.{_≡_, refl, sym, _∙_}
 use Prim.Native.Nat.{ℕ, _+_, _-_, _≤_, _<_}
 use native.Mathlib.Nat.{add-zero, sub-zero}
 use native.Mathlib.Omega.{arith}
 use lib.ListN.{length, length-set, take, drop, getD}
 use lib.Seq.{sets, getD-set-other}
 use borrow.Author.Needs.{needs}
-use Rattle.num.proofs.Copy.{copy-step, copy-done}
+use Rattle.num.proofs.Copy.{copy-done}
 use Rattle.opening.proofs.keep_key.Statement.{statement}
 use Rattle.opening.proofs.keep_key.Tie as tie
-use Rattle.opening.proofs.keep_key.Reads as reads
-use Rattle.opening.proofs.keep_key.Lts as lts
 
 abbrev Inv-loop : tie.InvT-loop
 Inv-loop scratch₀ half count done₀ scratch done = (done ≤ count) × (length scratch ≡ length scratch₀) × ((k : ℕ) → k < half → getD scratch k 0 ≡ getD scratch₀ k 0) × (sets scratch (half + done) (take (count - done) (drop done scratch₀)) ≡ sets scratch₀ half (take count scratch₀))
@@ -18,31 +16,24 @@ Inv-loop scratch₀ half count done₀ scratch done = (done ≤ count) × (lengt
 abbrev μ-loop : tie.MeasureT-loop
 μ-loop scratch₀ half count done₀ scratch done = count - done
 
--- src/lib.rt:72:5
 loop-holds : tie.Need-loop-holds Inv-loop μ-loop
 loop-holds c = (search needs, refl, (λ k h. refl), simp (add-zero, sub-zero))
 
--- src/lib.rt:73:32
 slice-read-scratch : tie.Need-slice-read-scratch Inv-loop μ-loop
 slice-read-scratch c = search needs
 
--- src/lib.rt:73:17
 add-scratch : tie.Need-add-scratch Inv-loop μ-loop
 add-scratch c = search needs
 
--- src/lib.rt:73:9
 slice-write-scratch : tie.Need-slice-write-scratch Inv-loop μ-loop
 slice-write-scratch c = search needs
 
--- src/lib.rt:74:9
 add-done : tie.Need-add-done Inv-loop μ-loop
 add-done c = search needs
 
--- src/lib.rt:72:5
 loop-less : tie.Need-loop-less Inv-loop μ-loop
 loop-less c = search needs
 
--- src/lib.rt:72:5
 loop-again : tie.Need-loop-again Inv-loop μ-loop
 loop-again c =
     let i = c .before .before .loop .inv in
@@ -54,11 +45,9 @@ loop-again c =
       keep-step _ _ _ _ _ (c .before .loop-test .taken) (omega arith) (i .2 (l .done) (omega arith)) ∙ i .3,
     )
 
--- src/lib.rt:67:1
 same-length : tie.Need-same-length Inv-loop μ-loop
 same-length c = search needs
 
--- src/lib.rt:67:1
 returns : tie.Need-returns Inv-loop μ-loop
 returns c =
     let i = c .before .loop .inv in

@@ -2,19 +2,13 @@ use Rattle.opening.proofs.Record.{moved-first, moved-later}
 use borrow.Author.Needs.{needs}
 use Rattle.opening.proofs.move_on.Statement.{statement}
 use Rattle.opening.proofs.move_on.Tie as tie
-use Rattle.opening.proofs.move_on.Reads as reads
-use Rattle.opening.proofs.move_on.Lts as lts
-use Rattle.opening.proofs.keep_key.Reads as keep-key-reads
 
--- src/lib.rt:125:9
 keep-key-requires : tie.Need-keep-key-requires
 keep-key-requires c κs = search needs
 
--- src/lib.rt:126:9
 same-length : tie.Need-same-length
 same-length c = search needs
 
--- src/lib.rt:126:9
 returns : tie.Need-returns
 returns c =
     let a = c .before .before .before .before .before .before .before .before .args in
@@ -23,7 +17,6 @@ returns c =
       record { key = p .0; previous = p .0 },
     )
 
--- src/lib.rt:111:1
 returns-2 : tie.Need-returns-2
 returns-2 c =
     let a = c .before .before .before .before .args in

@@ -1,4 +1,4 @@
-use mathlib.Core.Path.{_≡_, refl, sym, ap, _∙_}
+use mathlib.Core.Path.{refl, sym, ap, _∙_}
 use lib.ListN.{length}
 use Rattle.num.specs.Choice.{choice-defs}
 use Rattle.crc32.specs.V42.{crc-defs}
@@ -7,61 +7,45 @@ use Rattle.opening.specs.Open.{contentsFor, openFor, openOf}
 use borrow.Author.Needs.{needs}
 use Rattle.opening.proofs.open.Statement.{statement}
 use Rattle.opening.proofs.open.Tie as tie
-use Rattle.opening.proofs.open.Reads as reads
-use Rattle.opening.proofs.open.Lts as lts
-use Rattle.header.proofs.header.Reads as header-reads
-use Rattle.opening.proofs.contents.Reads as contents-reads
-use Rattle.sstable.proofs.verify_trailer.Reads as verify-trailer-reads
 
--- src/lib.rt:500:9
 verify-trailer-requires : tie.Need-verify-trailer-requires
 unfolding crc-defs choice-defs table-defs
 verify-trailer-requires c κs = refl
 
--- src/lib.rt:502:33
 enum-told : tie.Need-enum-told
 enum-told c = search needs
 
--- src/lib.rt:503:38
 enum-told-2 : tie.Need-enum-told-2
 enum-told-2 c = search needs
 
--- src/lib.rt:505:17
 enum-told-3 : tie.Need-enum-told-3
 enum-told-3 c = search needs
 
--- src/lib.rt:505:17
 header-requires : tie.Need-header-requires
 header-requires c κs = search needs
 
--- src/lib.rt:507:37
 enum-known-read : tie.Need-enum-known-read
 enum-known-read c = search needs
 
--- src/lib.rt:508:38
 enum-known-read-2 : tie.Need-enum-known-read-2
 enum-known-read-2 c = search needs
 
--- src/lib.rt:508:44
 contents-requires : tie.Need-contents-requires
 unfolding crc-defs choice-defs table-defs
 contents-requires c κs = (refl, sym (c .before .before .before .before .header .ensures) ∙ c .before .before .read2 .given .1)
 
--- src/lib.rt:496:1
 returns : tie.Need-returns
 unfolding openOf openFor
 returns c =
     let a = c .before .before .before .before .before .before .before .before .args in
     (sym (ap (openFor (a .section .now) (a .«data» .now) (a .blocks .now) (length (a .scratch .now))) (sym (c .before .before .verify-trailer .ensures) ∙ c .enum-told .given .1)), refl)
 
--- src/lib.rt:496:1
 returns-2 : tie.Need-returns-2
 unfolding openOf openFor
 returns-2 c =
     let a = c .before .before .before .before .before .before .before .before .args in
     (sym (ap (openFor (a .section .now) (a .«data» .now) (a .blocks .now) (length (a .scratch .now))) (sym (c .before .before .verify-trailer .ensures) ∙ c .enum-told2 .given .1)), refl)
 
--- src/lib.rt:496:1
 returns-3 : tie.Need-returns-3
 unfolding openOf openFor contentsFor
 returns-3 c =
@@ -70,11 +54,9 @@ returns-3 c =
     let h = ap (contentsFor (a .section .now) (a .«data» .now) (a .blocks .now) (length (a .scratch .now))) (sym (c .before .before .before .header .ensures) ∙ c .before .read .given .1) in
     (sym (t ∙ h), refl)
 
--- src/lib.rt:496:1
 same-length : tie.Need-same-length
 same-length c = search needs
 
--- src/lib.rt:496:1
 returns-4 : tie.Need-returns-4
 unfolding openOf openFor contentsFor
 returns-4 c =

@@ -1,4 +1,4 @@
-use mathlib.Core.Path.{_≡_, refl, sym, ap, _∙_}
+use mathlib.Core.Path.{_≡_, refl, _∙_}
 use Prim.Native.Nat.{_-_}
 use native.Mathlib.Omega.{arith}
 use lib.ListN.{length}
@@ -8,9 +8,6 @@ use Rattle.opening.specs.Scratch.{storeWith, stateIn, Ready, answerFor}
 use Rattle.opening.proofs.Block.{Walking, walking-start, walking-done, walking-refused, walking-more, moved, asked-more, asked-refusal, ready-more}
 use Rattle.opening.proofs.open_block.Statement.{statement}
 use Rattle.opening.proofs.open_block.Tie as tie
-use Rattle.opening.proofs.open_block.Reads as reads
-use Rattle.opening.proofs.open_block.Lts as lts
-use Rattle.opening.proofs.open_record.Reads as open-record-reads
 
 abbrev Inv-loop : tie.InvT-loop
 Inv-loop table section o end «data» offset raw entries-end scratch₀ half carried₀ pos₀ scratch carried pos =
@@ -21,7 +18,6 @@ Inv-loop table section o end «data» offset raw entries-end scratch₀ half car
 abbrev μ-loop : tie.MeasureT-loop
 μ-loop table section o end «data» offset raw entries-end scratch₀ half carried₀ pos₀ scratch carried pos = entries-end - pos
 
--- src/lib.rt:265:5
 loop-holds : tie.Need-loop-holds Inv-loop μ-loop
 unfolding stateIn atStart blockOf
 loop-holds c =
@@ -32,15 +28,12 @@ loop-holds c =
       walking-start (storeWith (a .section .now) (a .«data» .now) (a .o) (a .end) (a .half)) (a .offset) (a .raw .now) (a .entries-end) (stateIn (a .half) (a .scratch .now) (a .w)),
     )
 
--- src/lib.rt:266:13
 open-record-requires : tie.Need-open-record-requires Inv-loop μ-loop
 open-record-requires c κs = (c .before .before .loop .inv .0, c .before .before .before .before .before .before .before .before .pre .1)
 
--- src/lib.rt:281:32
 enum-known-opened : tie.Need-enum-known-opened Inv-loop μ-loop
 enum-known-opened c = search needs
 
--- src/lib.rt:265:5
 loop-less : tie.Need-loop-less Inv-loop μ-loop
 loop-less c =
     let a = c .before .before .before .before .before .before .before .before .before .before .before .before .before .before .args in
@@ -50,7 +43,6 @@ loop-less c =
     let m = moved (storeWith (a .section .now) (a .«data» .now) (a .o) (a .end) (a .half)) (a .offset) (a .raw .now) (a .entries-end) (l .pos) _ _ _ (asked-more (a .table .now) (a .section .now) (a .«data» .now) (a .o) (a .end) (a .half) (a .offset) (a .raw .now) (a .entries-end) (l .pos) (l .scratch) _ (l .carried) _ (l .inv .0) (k .kept .1 .1 .1 .1 .1 .1 .1 .1 .1 .0) (k .ensures .0) (k .ensures .1) _ _ g) in
     omega (arith, m .forward, m .within)
 
--- src/lib.rt:265:5
 loop-again : tie.Need-loop-again Inv-loop μ-loop
 loop-again c =
     let a = c .before .before .before .before .before .before .before .before .before .before .before .before .before .before .args in
@@ -63,15 +55,12 @@ loop-again c =
       walking-more (storeWith (a .section .now) (a .«data» .now) (a .o) (a .end) (a .half)) (a .offset) (a .raw .now) (a .entries-end) _ (l .pos) _ (l .inv .2) _ _ (c .before .before .before .before .before .before .before .loop-test .taken) e,
     )
 
--- src/lib.rt:285:35
 enum-known-opened-2 : tie.Need-enum-known-opened-2 Inv-loop μ-loop
 enum-known-opened-2 c = search needs
 
--- src/lib.rt:286:17
 same-length : tie.Need-same-length Inv-loop μ-loop
 same-length c = search needs
 
--- src/lib.rt:286:17
 returns : tie.Need-returns Inv-loop μ-loop
 unfolding answerFor blockOf atStart stateIn
 returns c =
@@ -81,11 +70,9 @@ returns c =
     let g = c .before .opened2 .given .1 in
     (walking-refused (storeWith (a .section .now) (a .«data» .now) (a .o) (a .end) (a .half)) (a .offset) (a .raw .now) (a .entries-end) _ (l .pos) _ (l .inv .2) _ (c .before .before .before .before .before .before .before .loop-test .taken) (asked-refusal (a .table .now) (a .section .now) (a .«data» .now) (a .o) (a .end) (a .half) (a .offset) (a .raw .now) (a .entries-end) (l .pos) (l .scratch) _ (l .carried) _ (l .inv .0) (k .kept .1 .1 .1 .1 .1 .1 .1 .1 .1 .0) (k .ensures .0) (k .ensures .1) _ g), tt)
 
--- src/lib.rt:240:1
 same-length-2 : tie.Need-same-length-2 Inv-loop μ-loop
 same-length-2 c = search needs
 
--- src/lib.rt:240:1
 returns-2 : tie.Need-returns-2 Inv-loop μ-loop
 unfolding answerFor blockOf atStart stateIn
 returns-2 c =

@@ -1,4 +1,4 @@
-use mathlib.Core.Path.{_≡_, refl, sym, ap, _∙_}
+use mathlib.Core.Path.{_≡_, refl, sym, _∙_}
 use Prim.Native.Nat.{_+_, _-_, _<_}
 use native.Mathlib.Omega.{arith}
 use lib.ListN.{length, getD}
@@ -9,10 +9,6 @@ use Rattle.opening.specs.Scratch.{storeWith, stateIn, Ready, endedFor}
 use Rattle.opening.proofs.Pairs.{fits-inside, pair-passed, pair-refused, ready-passed, Pairing, pairing-start, pairing-done, pairing-11, pairing-refused, pairing-more}
 use Rattle.opening.proofs.open_blocks.Statement.{statement}
 use Rattle.opening.proofs.open_blocks.Tie as tie
-use Rattle.opening.proofs.open_blocks.Reads as reads
-use Rattle.opening.proofs.open_blocks.Lts as lts
-use Rattle.opening.proofs.open_pair.Reads as open-pair-reads
-use Rattle.opening.proofs.pair_fits.Reads as pair-fits-reads
 
 abbrev Inv-loop : tie.InvT-loop
 Inv-loop table section o end «data» blocks scratch₀ half carried₀ at₀ i₀ scratch carried at i =
@@ -23,41 +19,32 @@ Inv-loop table section o end «data» blocks scratch₀ half carried₀ at₀ i�
 abbrev μ-loop : tie.MeasureT-loop
 μ-loop table section o end «data» blocks scratch₀ half carried₀ at₀ i₀ scratch carried at i = length blocks - i
 
--- src/lib.rt:368:5
 loop-holds : tie.Need-loop-holds Inv-loop μ-loop
 loop-holds c =
     let a = c .before .before .before .before .args in
     (c .before .before .before .before .pre .0, refl, pairing-start (storeWith (a .section .now) (a .«data» .now) (a .o) (a .end) (a .half)) (a .blocks .now) (stateIn (a .half) (a .scratch .now) (a .w)))
 
--- src/lib.rt:369:22
 mul-offset : tie.Need-mul-offset Inv-loop μ-loop
 mul-offset c = omega (arith, c .before .loop .inv .2 .even, c .before .before .before .before .before .before .pre .1, c .before .before .before .before .before .before .good .1 .1 .1 .1 .1 .0)
 
--- src/lib.rt:369:22
 shared-slice-read-offset : tie.Need-shared-slice-read-offset Inv-loop μ-loop
 shared-slice-read-offset c = omega (arith, c .before .before .loop .inv .2 .even, c .before .before .before .before .before .before .before .pre .1, c .before .before .before .before .before .before .before .good .1 .1 .1 .1 .1 .0)
 
--- src/lib.rt:370:26
 add-len : tie.Need-add-len Inv-loop μ-loop
 add-len c = omega (arith, c .before .before .loop .inv .2 .even, c .before .before .before .before .before .before .before .pre .1, c .before .before .before .before .before .before .before .good .1 .1 .1 .1 .1 .0)
 
--- src/lib.rt:370:19
 mul-len : tie.Need-mul-len Inv-loop μ-loop
 mul-len c = omega (arith, c .before .before .loop .inv .2 .even, c .before .before .before .before .before .before .before .pre .1, c .before .before .before .before .before .before .before .good .1 .1 .1 .1 .1 .0)
 
--- src/lib.rt:370:19
 shared-slice-read-len : tie.Need-shared-slice-read-len Inv-loop μ-loop
 shared-slice-read-len c = omega (arith, c .before .before .before .loop .inv .2 .even, c .before .before .before .before .before .before .before .before .pre .1, c .before .before .before .before .before .before .before .before .good .1 .1 .1 .1 .1 .0)
 
--- src/lib.rt:371:13
 pair-fits-requires : tie.Need-pair-fits-requires Inv-loop μ-loop
 pair-fits-requires c κs = c .before .before .before .loop .inv .2 .within
 
--- src/lib.rt:372:13
 same-length : tie.Need-same-length Inv-loop μ-loop
 same-length c = search needs
 
--- src/lib.rt:372:13
 returns : tie.Need-returns Inv-loop μ-loop
 unfolding endedFor pairFits
 returns c =
@@ -66,27 +53,21 @@ returns c =
     let n : l .i + 1 < length (a .blocks .now) = omega (arith, l .inv .2 .even, c .before .before .before .before .before .before .before .before .before .before .pre .1, c .before .before .before .before .loop-test .taken) in
     pairing-11 (storeWith (a .section .now) (a .«data» .now) (a .o) (a .end) (a .half)) (a .blocks .now) _ (l .i) (l .at) (stateIn (a .half) (l .scratch) (l .carried)) (l .inv .2) n (sym (c .before .pair-fits .ensures) ∙ not-true _ (c .if1 .taken))
 
--- src/lib.rt:374:13
 open-pair-requires : tie.Need-open-pair-requires Inv-loop μ-loop
 open-pair-requires c κs = (c .before .before .before .before .before .before .loop .inv .0, fits-inside _ (c .before .before .before .before .before .before .loop .at) _ _ (sym (c .before .before .pair-fits .ensures) ∙ not-false _ (c .before .if1 .left)))
 
--- src/lib.rt:378:33
 enum-known-opened : tie.Need-enum-known-opened Inv-loop μ-loop
 enum-known-opened c = search needs
 
--- src/lib.rt:380:22
 add-at : tie.Need-add-at Inv-loop μ-loop
 add-at c = omega (arith, fits-inside _ (c .before .before .before .before .before .before .before .before .before .before .before .before .loop .at) _ _ (sym (c .before .before .before .before .before .before .before .before .pair-fits .ensures) ∙ not-false _ (c .before .before .before .before .before .before .before .if1 .left)), c .before .before .before .before .before .before .before .before .before .before .before .before .before .before .before .before .before .good .1 .1 .1 .1 .0)
 
--- src/lib.rt:381:17
 add-i : tie.Need-add-i Inv-loop μ-loop
 add-i c = omega (arith, c .before .before .before .before .before .before .before .before .before .before .before .before .loop .inv .2 .even, c .before .before .before .before .before .before .before .before .before .before .before .before .before .before .before .before .before .pre .1, c .before .before .before .before .before .before .before .before .before .before .before .loop-test .taken, c .before .before .before .before .before .before .before .before .before .before .before .before .before .before .before .before .before .good .1 .1 .1 .1 .1 .0)
 
--- src/lib.rt:368:5
 loop-less : tie.Need-loop-less Inv-loop μ-loop
 loop-less c = omega (arith, c .before .before .before .before .before .before .before .before .before .before .before .before .loop .inv .2 .even, c .before .before .before .before .before .before .before .before .before .before .before .before .before .before .before .before .before .pre .1, c .before .before .before .before .before .before .before .before .before .before .before .loop-test .taken)
 
--- src/lib.rt:368:5
 loop-again : tie.Need-loop-again Inv-loop μ-loop
 unfolding pairFits
 loop-again c =
@@ -101,15 +82,12 @@ loop-again c =
       pairing-more (storeWith (a .section .now) (a .«data» .now) (a .o) (a .end) (a .half)) (a .blocks .now) _ (l .i) (l .at) (stateIn (a .half) (l .scratch) (l .carried)) (l .inv .2) n f _ (pair-passed (a .table .now) (a .section .now) (a .«data» .now) (a .o) (a .end) (a .half) (getD (a .blocks .now) (l .i) 0) (getD (a .blocks .now) (l .i + 1) 0) (l .scratch) _ (l .carried) _ (l .inv .0) (k .kept .1 .1 .1 .1 .1 .1 .1 .0) (k .ensures .0) (k .ensures .1) _ g),
     )
 
--- src/lib.rt:383:34
 enum-known-opened-2 : tie.Need-enum-known-opened-2 Inv-loop μ-loop
 enum-known-opened-2 c = search needs
 
--- src/lib.rt:384:17
 same-length-2 : tie.Need-same-length-2 Inv-loop μ-loop
 same-length-2 c = search needs
 
--- src/lib.rt:384:17
 returns-2 : tie.Need-returns-2 Inv-loop μ-loop
 unfolding endedFor pairFits
 returns-2 c =
@@ -121,11 +99,9 @@ returns-2 c =
     let f = sym (c .before .before .before .before .before .before .before .before .pair-fits .ensures) ∙ not-false _ (c .before .before .before .before .before .before .before .if1 .left) in
     pairing-refused (storeWith (a .section .now) (a .«data» .now) (a .o) (a .end) (a .half)) (a .blocks .now) _ (l .i) (l .at) (stateIn (a .half) (l .scratch) (l .carried)) (l .inv .2) n f _ (pair-refused (a .table .now) (a .section .now) (a .«data» .now) (a .o) (a .end) (a .half) (getD (a .blocks .now) (l .i) 0) (getD (a .blocks .now) (l .i + 1) 0) (l .scratch) _ (l .carried) _ (l .inv .0) (k .kept .1 .1 .1 .1 .1 .1 .1 .0) (k .ensures .0) (k .ensures .1) _ g)
 
--- src/lib.rt:350:1
 same-length-3 : tie.Need-same-length-3 Inv-loop μ-loop
 same-length-3 c = search needs
 
--- src/lib.rt:350:1
 returns-3 : tie.Need-returns-3 Inv-loop μ-loop
 unfolding endedFor
 returns-3 c =

@@ -1,50 +1,37 @@
-use mathlib.Core.Path.{_≡_, sym, ap, _∙_}
+use mathlib.Core.Path.{sym, _∙_}
 use Rattle.opening.specs.Scratch.{storeWith, stateIn, answerFor}
 use Rattle.opening.proofs.Pairs.{part-cut, part-inside, sound-inside, pair-unsound, pair-sound}
 use borrow.Author.Needs.{needs}
 use Rattle.opening.proofs.open_pair.Statement.{statement}
 use Rattle.opening.proofs.open_pair.Tie as tie
-use Rattle.opening.proofs.open_pair.Reads as reads
-use Rattle.opening.proofs.open_pair.Lts as lts
-use Rattle.block.proofs.verify.Reads as verify-reads
-use Rattle.opening.proofs.open_block.Reads as open-block-reads
 
--- src/lib.rt:317:20
 add-pair-end : tie.Need-add-pair-end
 add-pair-end c = search needs
 
--- src/lib.rt:318:15
 sub-raw : tie.Need-sub-raw
 sub-raw c = search needs
 
--- src/lib.rt:318:15
 part-raw-start : tie.Need-part-raw-start
 part-raw-start c = search needs
 
--- src/lib.rt:318:15
 part-raw-end : tie.Need-part-raw-end
 part-raw-end c = search needs
 
--- src/lib.rt:319:9
 verify-requires : tie.Need-verify-requires
 verify-requires c κs = search needs
 
--- src/lib.rt:321:30
 enum-told : tie.Need-enum-told
 enum-told c = search needs
 
--- src/lib.rt:322:25
 enum-known-verified : tie.Need-enum-known-verified
 enum-known-verified c = search needs
 
--- src/lib.rt:322:34
 open-block-requires : tie.Need-open-block-requires
 open-block-requires c κs =
     let a = c .before .before .before .before .before .before .before .before .before .args in
     let p = c .before .before .before .before .before .before .before .before .before .pre in
     (p .0, (sound-inside _ _ (sym (c .before .before .before .before .verify .ensures) ∙ c .before .before .verified .given .1), part-inside (a .«data» .now) (a .offset) (a .len) (p .1)))
 
--- src/lib.rt:300:1
 returns : tie.Need-returns
 unfolding answerFor
 returns c =
@@ -52,11 +39,9 @@ returns c =
     let p = c .before .before .before .before .before .before .before .pre in
     (pair-unsound (storeWith (a .section .now) (a .«data» .now) (a .o) (a .end) (a .half)) (a .offset) (a .len) (stateIn (a .half) (a .scratch .now) (a .w)) _ (part-cut (a .«data» .now) (a .offset) (a .len)) (sym (c .before .before .verify .ensures) ∙ c .enum-told .given .1), tt)
 
--- src/lib.rt:300:1
 same-length : tie.Need-same-length
 same-length c = search needs
 
--- src/lib.rt:300:1
 returns-2 : tie.Need-returns-2
 returns-2 c =
     let a = c .before .before .before .before .before .before .before .before .before .before .before .before .args in

@@ -1,34 +1,25 @@
-use mathlib.Core.Path.{_≡_, sym, ap, _∙_}
+use mathlib.Core.Path.{sym, _∙_}
 use Rattle.opening.specs.Scratch.{storeWith, askedFor}
 use Rattle.opening.proofs.Record.{held-length, asked-13, asked-met, met-lies}
 use borrow.Author.Needs.{needs}
 use Rattle.opening.proofs.open_record.Statement.{statement}
 use Rattle.opening.proofs.open_record.Tie as tie
-use Rattle.opening.proofs.open_record.Reads as reads
-use Rattle.opening.proofs.open_record.Lts as lts
-use Rattle.block.proofs.record_at.Reads as record-at-reads
-use Rattle.opening.proofs.visit_record.Reads as visit-record-reads
 
--- src/lib.rt:218:9
 record-at-requires : tie.Need-record-at-requires
 record-at-requires c κs = search needs
 
--- src/lib.rt:220:29
 enum-told : tie.Need-enum-told
 enum-told c = search needs
 
--- src/lib.rt:221:22
 enum-known-stepped : tie.Need-enum-known-stepped
 enum-known-stepped c = search needs
 
--- src/lib.rt:221:28
 visit-record-requires : tie.Need-visit-record-requires
 visit-record-requires c κs =
     let a = c .before .before .before .before .before .before .before .before .before .args in
     let p = c .before .before .before .before .before .before .before .before .before .pre in
     (p .0, (met-lies (storeWith (a .section .now) (a .«data» .now) (a .o) (a .end) (a .half)) (a .offset) (a .raw .now) (a .entries-end) (a .pos) (a .half) (a .scratch .now) (a .w) (held-length (a .half) (a .scratch .now) (a .w) (p .0 .halves) (p .0 .held)) _ (p .1 .0) (sym (c .before .before .before .before .record-at .ensures) ∙ c .before .before .stepped .given .1), p .1 .1))
 
--- src/lib.rt:199:1
 returns : tie.Need-returns
 unfolding askedFor
 returns c =
@@ -36,11 +27,9 @@ returns c =
     let p = c .before .before .before .before .before .before .before .pre in
     (asked-13 (storeWith (a .section .now) (a .«data» .now) (a .o) (a .end) (a .half)) (a .offset) (a .raw .now) (a .entries-end) (a .pos) (a .half) (a .scratch .now) (a .w) (held-length (a .half) (a .scratch .now) (a .w) (p .0 .halves) (p .0 .held)) (sym (c .before .before .record-at .ensures) ∙ c .enum-told .given .1), tt)
 
--- src/lib.rt:199:1
 same-length : tie.Need-same-length
 same-length c = search needs
 
--- src/lib.rt:199:1
 returns-2 : tie.Need-returns-2
 returns-2 c =
     let a = c .before .before .before .before .before .before .before .before .before .before .before .before .args in

@@ -4,18 +4,13 @@ use Rattle.opening.proofs.Pairs.{fits-behind}
 use borrow.Author.Needs.{needs}
 use Rattle.opening.proofs.pair_fits.Statement.{statement}
 use Rattle.opening.proofs.pair_fits.Tie as tie
-use Rattle.opening.proofs.pair_fits.Reads as reads
-use Rattle.opening.proofs.pair_fits.Lts as lts
 
--- src/lib.rt:344:9
 returns : tie.Need-returns
 returns c = both-no _ _ (ne-eqb _ _ (c .if1 .taken))
 
--- src/lib.rt:346:12
 sub-result : tie.Need-sub-result
 sub-result c = search needs
 
--- src/lib.rt:339:1
 returns-2 : tie.Need-returns-2
 returns-2 c = fits-behind _ _ _ _ (c .before .pre) (c .if1 .left)
 

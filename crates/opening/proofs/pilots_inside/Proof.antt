@@ -8,9 +8,6 @@ use Rattle.opening.specs.Open.{pilotsInside}
 use Rattle.opening.proofs.Pilots.{pilots-none, pilots-more, pilots-outside}
 use Rattle.opening.proofs.pilots_inside.Statement.{statement}
 use Rattle.opening.proofs.pilots_inside.Tie as tie
-use Rattle.opening.proofs.pilots_inside.Reads as reads
-use Rattle.opening.proofs.pilots_inside.Lts as lts
-use Rattle.opening.proofs.pilot_inside.Reads as pilot-inside-reads
 
 abbrev Inv-loop : tie.InvT-loop
 Inv-loop section o k₀ k = (k ≤ o .buckets) × (pilotsInside section o k ≡ true)
@@ -18,31 +15,24 @@ Inv-loop section o k₀ k = (k ≤ o .buckets) × (pilotsInside section o k ≡ 
 abbrev μ-loop : tie.MeasureT-loop
 μ-loop section o k₀ k = o .buckets - k
 
--- src/lib.rt:57:5
 loop-holds : tie.Need-loop-holds Inv-loop μ-loop
 loop-holds c = (search needs, pilots-none _ _)
 
--- src/lib.rt:58:13
 pilot-inside-requires : tie.Need-pilot-inside-requires Inv-loop μ-loop
 pilot-inside-requires c κs = omega arith
 
--- src/lib.rt:59:13
 returns : tie.Need-returns Inv-loop μ-loop
 returns c = sym (pilots-outside _ _ _ _ (c .before .before .if1 .taken) (sym (c .before .pilot-inside .ensures) ∙ not-true _ (c .if2 .taken)))
 
--- src/lib.rt:61:9
 add-k : tie.Need-add-k Inv-loop μ-loop
 add-k c = search needs
 
--- src/lib.rt:57:5
 loop-less : tie.Need-loop-less Inv-loop μ-loop
 loop-less c = search needs
 
--- src/lib.rt:57:5
 loop-again : tie.Need-loop-again Inv-loop μ-loop
 loop-again c = (search needs, pilots-more _ _ _ (c .before .before .before .before .loop .inv .1) (sym (c .before .pilot-inside .ensures) ∙ not-false _ (c .if2 .left)))
 
--- src/lib.rt:52:1
 returns-2 : tie.Need-returns-2 Inv-loop μ-loop
 returns-2 c =
     let l = c .before .before .loop in

@@ -4,24 +4,17 @@ use Rattle.num.specs.Choice.{either}
 use Rattle.opening.proofs.Accepted.{scan-header-inside}
 use Rattle.opening.proofs.prefixes_counted.Statement.{statement}
 use Rattle.opening.proofs.prefixes_counted.Tie as tie
-use Rattle.opening.proofs.prefixes_counted.Reads as reads
-use Rattle.opening.proofs.prefixes_counted.Lts as lts
-use Rattle.num.proofs.u64_at.Reads as u64-at-reads
 
--- src/lib.rt:413:9
 returns : tie.Need-returns
 unfolding either
 returns c = rw (eq-eqb _ _ (c .if1 .taken))
 
--- src/lib.rt:415:26
 add-u64-at : tie.Need-add-u64-at
 add-u64-at c = omega (arith, scan-header-inside _ _ (c .before .before .before .before .pre) (c .before .if1 .left))
 
--- src/lib.rt:415:5
 u64-at-requires : tie.Need-u64-at-requires
 u64-at-requires c κs = omega (arith, scan-header-inside _ _ (c .before .before .before .before .pre) (c .before .if1 .left))
 
--- src/lib.rt:408:1
 returns-2 : tie.Need-returns-2
 unfolding either
 returns-2 c = rw (ne-eqb _ _ (c .before .before .before .if1 .left), c .before .u64-at .ensures)

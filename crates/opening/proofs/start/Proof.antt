@@ -2,10 +2,7 @@ use mathlib.Core.Path.{refl}
 use Rattle.opening.specs.Open.{startAt}
 use Rattle.opening.proofs.start.Statement.{statement}
 use Rattle.opening.proofs.start.Tie as tie
-use Rattle.opening.proofs.start.Reads as reads
-use Rattle.opening.proofs.start.Lts as lts
 
--- src/lib.rt:443:1
 returns : tie.Need-returns
 unfolding startAt
 returns c = refl

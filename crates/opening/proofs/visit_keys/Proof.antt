@@ -3,43 +3,31 @@ use Rattle.opening.proofs.Record.{visit-parts}
 use borrow.Author.Needs.{needs}
 use Rattle.opening.proofs.visit_keys.Statement.{statement}
 use Rattle.opening.proofs.visit_keys.Tie as tie
-use Rattle.opening.proofs.visit_keys.Reads as reads
-use Rattle.opening.proofs.visit_keys.Lts as lts
-use Rattle.arena.proofs.visit.Reads as visit-reads
 
--- src/lib.rt:96:24
 add-previous-end : tie.Need-add-previous-end
 add-previous-end c = search needs
 
--- src/lib.rt:103:9
 sub-visit : tie.Need-sub-visit
 sub-visit c = search needs
 
--- src/lib.rt:103:9
 part-visit-start : tie.Need-part-visit-start
 part-visit-start c = search needs
 
--- src/lib.rt:103:9
 part-visit-end : tie.Need-part-visit-end
 part-visit-end c = search needs
 
--- src/lib.rt:104:9
 sub-visit-2 : tie.Need-sub-visit-2
 sub-visit-2 c = search needs
 
--- src/lib.rt:104:9
 part-visit-start-2 : tie.Need-part-visit-start-2
 part-visit-start-2 c = search needs
 
--- src/lib.rt:104:9
 part-visit-end-2 : tie.Need-part-visit-end-2
 part-visit-end-2 c = search needs
 
--- src/lib.rt:97:5
 visit-requires : tie.Need-visit-requires
 visit-requires c κs = search needs
 
--- src/lib.rt:77:1
 returns : tie.Need-returns
 returns c =
     let a = c .before .before .before .before .before .before .args in

@@ -1,23 +1,15 @@
 use Rattle.opening.specs.Scratch.{askedFor}
-use mathlib.Core.Path.{_≡_, sym, ap, _∙_}
+use mathlib.Core.Path.{sym, _∙_}
 use native.Mathlib.Omega.{arith}
 use borrow.Author.Tests.{not-true, not-false}
 use Rattle.opening.proofs.Record.{asked-14, asked-15, asked-refused, asked-went}
 use borrow.Author.Needs.{needs}
 use Rattle.opening.proofs.visit_record.Statement.{statement}
 use Rattle.opening.proofs.visit_record.Tie as tie
-use Rattle.opening.proofs.visit_record.Reads as reads
-use Rattle.opening.proofs.visit_record.Lts as lts
-use Rattle.block.proofs.copy_key.Reads as copy-key-reads
-use Rattle.opening.proofs.move_on.Reads as move-on-reads
-use Rattle.opening.proofs.visit_keys.Reads as visit-keys-reads
-use Rattle.sstable.proofs.mutation.Reads as mutation-reads
 
--- src/lib.rt:163:9
 mutation-requires : tie.Need-mutation-requires
 mutation-requires c κs = search needs
 
--- src/lib.rt:164:9
 returns : tie.Need-returns
 unfolding askedFor
 returns c =
@@ -25,7 +17,6 @@ returns c =
     let p = c .before .before .before .before .before .before .pre in
     (asked-14 (a .section .now) (a .«data» .now) (a .o) (a .end) (a .half) (a .offset) (a .raw .now) (a .scratch .now) (a .w) (a .r) (p .1 .0) (p .1 .1) (p .0 .halves) (p .0 .held) (sym (c .before .mutation .ensures) ∙ not-true _ (c .if1 .taken)), tt)
 
--- src/lib.rt:167:9
 returns-2 : tie.Need-returns-2
 unfolding askedFor
 returns-2 c =
@@ -33,48 +24,39 @@ returns-2 c =
     let p = c .before .before .before .before .before .before .before .before .pre in
     (asked-15 (a .section .now) (a .«data» .now) (a .o) (a .end) (a .half) (a .offset) (a .raw .now) (a .scratch .now) (a .w) (a .r) (p .1 .0) (p .1 .1) (p .0 .halves) (p .0 .held) (sym (c .before .before .before .mutation .ensures) ∙ not-false _ (c .before .before .if1 .left)) (c .if2 .taken), tt)
 
--- src/lib.rt:169:15
 sub-own : tie.Need-sub-own
 sub-own c = search needs
 
--- src/lib.rt:170:26
 sub-copy-key : tie.Need-sub-copy-key
 sub-copy-key c = search needs
 
--- src/lib.rt:170:5
 copy-key-requires : tie.Need-copy-key-requires
 copy-key-requires c κs = search needs
 
--- src/lib.rt:171:17
 add-place : tie.Need-add-place
 add-place c =
     let a = c .before .before .before .before .before .before .before .before .before .before .before .before .before .before .before .args in
     let p = c .before .before .before .before .before .before .before .before .before .before .before .before .before .before .before .pre in
     omega (arith, p .1 .0 .inside, p .1 .1, c .before .before .before .before .before .before .before .before .before .before .before .before .before .before .before .good .1 .1 .1 .1 .0)
 
--- src/lib.rt:172:21
 add-value-end : tie.Need-add-value-end
 add-value-end c =
     let a = c .before .before .before .before .before .before .before .before .before .before .before .before .before .before .before .before .args in
     let p = c .before .before .before .before .before .before .before .before .before .before .before .before .before .before .before .before .pre in
     omega (arith, p .1 .0 .inside, p .1 .1, c .before .before .before .before .before .before .before .before .before .before .before .before .before .before .before .before .good .1 .1 .1 .1 .0)
 
--- src/lib.rt:185:9
 sub-visit-keys : tie.Need-sub-visit-keys
 sub-visit-keys c = search needs
 
--- src/lib.rt:185:9
 part-visit-keys-start : tie.Need-part-visit-keys-start
 part-visit-keys-start c = search needs
 
--- src/lib.rt:185:9
 part-visit-keys-end : tie.Need-part-visit-keys-end
 part-visit-keys-end c =
     let a = c .before .before .before .before .before .before .before .before .before .before .before .before .before .before .before .before .before .before .args in
     let p = c .before .before .before .before .before .before .before .before .before .before .before .before .before .before .before .before .before .before .pre in
     omega (arith, p .1 .0 .inside, p .1 .1)
 
--- src/lib.rt:175:9
 visit-keys-requires : tie.Need-visit-keys-requires
 visit-keys-requires c κs =
     let a = c .before .before .before .before .before .before .before .before .before .before .before .before .before .before .before .before .before .before .before .args in
@@ -82,26 +64,21 @@ visit-keys-requires c κs =
     let k = c .before .before .before .before .before .before .before .copy-key .kept .1 .1 .1 .0 in
     ((p .0 .table, p .0 .readable, p .0 .inside), (omega (arith, k, p .0 .halves, c .before .before .before .before .before .before .before .before .before .before .before .if2 .left), omega (arith, k, p .0 .halves, p .0 .held .previous)))
 
--- src/lib.rt:193:26
 enum-known-visited : tie.Need-enum-known-visited
 enum-known-visited c = search needs
 
--- src/lib.rt:194:23
 enum-known-visited-2 : tie.Need-enum-known-visited-2
 enum-known-visited-2 c = search needs
 
--- src/lib.rt:194:29
 move-on-requires : tie.Need-move-on-requires
 move-on-requires c κs =
     let a = c .before .before .before .before .before .before .before .before .before .before .before .before .before .before .before .before .before .before .before .before .before .before .before .before .args in
     let p = c .before .before .before .before .before .before .before .before .before .before .before .before .before .before .before .before .before .before .before .before .before .before .before .before .pre in
     (c .before .before .before .before .before .before .before .before .before .before .before .before .before .before .before .before .if2 .left, omega (arith, c .before .before .before .before .before .before .before .before .before .before .before .before .copy-key .kept .1 .1 .1 .0, p .0 .halves), p .0 .held)
 
--- src/lib.rt:145:1
 same-length : tie.Need-same-length
 same-length c = search needs
 
--- src/lib.rt:145:1
 returns-3 : tie.Need-returns-3
 unfolding askedFor
 returns-3 c =
@@ -110,11 +87,9 @@ returns-3 c =
     let y = sym (c .before .before .before .before .before .before .before .before .before .before .before .before .before .before .before .before .before .before .mutation .ensures) ∙ not-false _ (c .before .before .before .before .before .before .before .before .before .before .before .before .before .before .before .before .before .if1 .left) in
     (asked-refused (a .section .now) (a .«data» .now) (a .o) (a .end) (a .half) (a .offset) (a .raw .now) (a .scratch .now) (a .w) (a .r) (p .1 .0) (p .1 .1) (p .0 .halves) (p .0 .held) y (c .before .before .before .before .before .before .before .before .before .before .before .before .before .before .before .if2 .left) _ (c .before .before .before .before .before .before .before .before .before .before .before .copy-key .ensures) _ (c .before .before .before .visit-keys .ensures) _ (c .before .visited .given .1), tt)
 
--- src/lib.rt:145:1
 same-length-2 : tie.Need-same-length-2
 same-length-2 c = search needs
 
--- src/lib.rt:145:1
 returns-4 : tie.Need-returns-4
 returns-4 c =
     let a = c .before .before .before .before .before .before .before .before .before .before .before .before .before .before .before .before .before .before .before .before .before .before .before .before .before .before .before .args in

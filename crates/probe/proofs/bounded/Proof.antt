@@ -3,40 +3,31 @@ use Rattle.num.specs.Choice.{both}
 use Rattle.probe.specs.Probe.{bounded}
 use Rattle.probe.proofs.bounded.Statement.{statement}
 use Rattle.probe.proofs.bounded.Tie as tie
-use Rattle.probe.proofs.bounded.Reads as reads
-use Rattle.probe.proofs.bounded.Lts as lts
 
--- src/lib.rt:110:9
 returns : tie.Need-returns
 unfolding bounded both
 returns c = rw (lt-leb _ _ (c .if1 .taken))
 
--- src/lib.rt:113:9
 returns-2 : tie.Need-returns-2
 unfolding bounded both
 returns-2 c = rw (le-leb _ _ (c .before .before .if1 .left), lt-leb _ _ (c .if2 .taken))
 
--- src/lib.rt:116:9
 returns-3 : tie.Need-returns-3
 unfolding bounded both
 returns-3 c = rw (le-leb _ _ (c .before .before .before .before .if1 .left), le-leb _ _ (c .before .before .if2 .left), lt-leb _ _ (c .if3 .taken))
 
--- src/lib.rt:119:9
 returns-4 : tie.Need-returns-4
 unfolding bounded both
 returns-4 c = rw (le-leb _ _ (c .before .before .before .before .before .before .if1 .left), le-leb _ _ (c .before .before .before .before .if2 .left), le-leb _ _ (c .before .before .if3 .left), lt-leb _ _ (c .if4 .taken))
 
--- src/lib.rt:122:9
 returns-5 : tie.Need-returns-5
 unfolding bounded both
 returns-5 c = rw (le-leb _ _ (c .before .before .before .before .before .before .before .before .if1 .left), le-leb _ _ (c .before .before .before .before .before .before .if2 .left), le-leb _ _ (c .before .before .before .before .if3 .left), le-leb _ _ (c .before .before .if4 .left), lt-leb _ _ (c .if5 .taken))
 
--- src/lib.rt:125:9
 returns-6 : tie.Need-returns-6
 unfolding bounded both
 returns-6 c = rw (le-leb _ _ (c .before .before .before .before .before .before .before .before .before .before .if1 .left), le-leb _ _ (c .before .before .before .before .before .before .before .before .if2 .left), le-leb _ _ (c .before .before .before .before .before .before .if3 .left), le-leb _ _ (c .before .before .before .before .if4 .left), le-leb _ _ (c .before .before .if5 .left), lt-leb _ _ (c .if6 .taken))
 
--- src/lib.rt:106:1
 returns-7 : tie.Need-returns-7
 unfolding bounded both
 returns-7 c = rw (le-leb _ _ (c .before .before .before .before .before .before .before .before .before .before .before .if1 .left), le-leb _ _ (c .before .before .before .before .before .before .before .before .before .if2 .left), le-leb _ _ (c .before .before .before .before .before .before .before .if3 .left), le-leb _ _ (c .before .before .before .before .before .if4 .left), le-leb _ _ (c .before .before .before .if5 .left), le-leb _ _ (c .before .if6 .left))

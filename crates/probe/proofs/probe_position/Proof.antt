@@ -5,29 +5,21 @@ use Rattle.probe.proofs.Probing.{no-slots, wide-pilot, a-slot}
 use borrow.Author.Needs.{needs}
 use Rattle.probe.proofs.probe_position.Statement.{statement}
 use Rattle.probe.proofs.probe_position.Tie as tie
-use Rattle.probe.proofs.probe_position.Reads as reads
-use Rattle.probe.proofs.probe_position.Lts as lts
-use Rattle.point.proofs.position.Reads as position-reads
 
--- src/lib.rt:78:9
 returns : tie.Need-returns
 unfolding positionProbe if_then_else_
 returns c = rw (no-slots _ _ (c .if1 .taken))
 
--- src/lib.rt:81:9
 returns-2 : tie.Need-returns-2
 unfolding positionProbe if_then_else_
 returns-2 c = rw (wide-pilot _ _ (c .before .if1 .left) (c .if2 .taken))
 
--- src/lib.rt:83:24
 cast-position : tie.Need-cast-position
 cast-position c = search needs
 
--- src/lib.rt:83:5
 position-requires : tie.Need-position-requires
 position-requires c κs = search needs
 
--- src/lib.rt:73:1
 returns-3 : tie.Need-returns-3
 unfolding positionProbe if_then_else_
 returns-3 c = c .position .ensures ∙ rw (a-slot _ _ (c .before .before .if1 .left) (c .before .if2 .left))

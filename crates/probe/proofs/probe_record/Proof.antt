@@ -5,85 +5,62 @@ use Rattle.probe.proofs.Probing.{step-outside, step-inside, probe-stopp
 use borrow.Author.Needs.{needs}
 use Rattle.probe.proofs.probe_record.Statement.{statement}
 use Rattle.probe.proofs.probe_record.Tie as tie
-use Rattle.probe.proofs.probe_record.Reads as reads
-use Rattle.probe.proofs.probe_record.Lts as lts
-use Rattle.block.proofs.copy_key.Reads as copy-key-reads
-use Rattle.block.proofs.record_at.Reads as record-at-reads
-use Rattle.sstable.proofs.Kind.to_u8.Reads as to-u8-reads
 
--- src/lib.rt:152:9
 returns : tie.Need-returns
 returns c = probe-stopped _ _ _ _ _ (step-outside _ _ _ _ (c .if1 .taken))
 
--- src/lib.rt:155:9
 record-at-requires : tie.Need-record-at-requires
 record-at-requires c κs = search needs
 
--- src/lib.rt:157:22
 enum-known-step : tie.Need-enum-known-step
 enum-known-step c = search needs
 
--- src/lib.rt:159:17
 returns-2 : tie.Need-returns-2
 returns-2 c = probe-long _ _ _ _ _ _ (step-inside _ _ _ _ (c .before .before .before .before .before .before .if1 .left) ∙ sym (c .before .before .before .before .before .record-at .ensures) ∙ c .before .before .before .step .given .1) (c .if2 .taken)
 
--- src/lib.rt:162:34
 add-copy-key : tie.Need-add-copy-key
 add-copy-key c =
     let i = record-inside _ _ _ _ _ (sym (c .before .before .before .before .before .record-at .ensures) ∙ c .before .before .before .step .given .1) in
     omega arith
 
--- src/lib.rt:162:43
 sub-copy-key : tie.Need-sub-copy-key
 sub-copy-key c = record-inside _ _ _ _ _ (sym (c .before .before .before .before .before .before .record-at .ensures) ∙ c .before .before .before .before .step .given .1) .longer
 
--- src/lib.rt:162:13
 copy-key-requires : tie.Need-copy-key-requires
 copy-key-requires c κs =
     let i = record-inside _ _ _ _ _ (sym (c .before .before .before .before .before .before .before .record-at .ensures) ∙ c .before .before .before .before .before .step .given .1) in
     omega arith
 
--- src/lib.rt:163:25
 to-u8-requires : tie.Need-to-u8-requires
 to-u8-requires c κs = search needs
 
--- src/lib.rt:163:25
 cast-fields : tie.Need-cast-fields
 cast-fields c = search needs
 
--- src/lib.rt:163:13
 element-write-fields : tie.Need-element-write-fields
 element-write-fields c = search needs
 
--- src/lib.rt:164:13
 element-write-fields-2 : tie.Need-element-write-fields-2
 element-write-fields-2 c = search needs
 
--- src/lib.rt:165:13
 element-write-fields-3 : tie.Need-element-write-fields-3
 element-write-fields-3 c = search needs
 
--- src/lib.rt:166:13
 element-write-fields-4 : tie.Need-element-write-fields-4
 element-write-fields-4 c = search needs
 
--- src/lib.rt:167:13
 element-write-fields-5 : tie.Need-element-write-fields-5
 element-write-fields-5 c = search needs
 
--- src/lib.rt:168:13
 element-write-fields-6 : tie.Need-element-write-fields-6
 element-write-fields-6 c = search needs
 
--- src/lib.rt:171:29
 enum-told : tie.Need-enum-told
 enum-told c = search needs
 
--- src/lib.rt:137:1
 same-length : tie.Need-same-length
 same-length c = search needs
 
--- src/lib.rt:137:1
 returns-3 : tie.Need-returns-3
 returns-3 c =
     let a = c .before .before .before .before .before .before .before .before .before .before .before .before .before .before .before .args in
@@ -91,7 +68,6 @@ returns-3 c =
     let m = probe-met (a .raw .now) (a .pos) _ (a .fields .now) (a .scratch .now) _ _ t (c .before .before .before .before .before .before .if2 .left) (c .to-u8 .ensures) in
     (m .0, m .1, c .before .before .before .copy-key .ensures ∙ m .2)
 
--- src/lib.rt:137:1
 returns-4 : tie.Need-returns-4
 returns-4 c = probe-stopped _ _ _ _ _ (step-inside _ _ _ _ (c .before .before .before .if1 .left) ∙ sym (c .before .before .record-at .ensures) ∙ c .enum-told .given .1)
 

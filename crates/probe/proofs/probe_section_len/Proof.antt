@@ -1,76 +1,56 @@
-use mathlib.Core.Path.{sym, ap, subst⁻¹, _∙_}
+use mathlib.Core.Path.{sym, subst⁻¹, _∙_}
 use borrow.Author.Tests.{not-true, not-false}
 use Rattle.num.specs.Choice.{if_then_else_}
-use Rattle.encoding.specs.declared.Encoding.{Encoding}
-use Rattle.encoding.specs.Encoding.{Widths, sectionLenOf}
+use Rattle.encoding.specs.Encoding.{Widths}
 use Rattle.encoding.proofs.Widths.{encodingOf-widths}
 use Rattle.probe.specs.Probe.{lengthProbe, totalsOf}
 use Rattle.probe.proofs.Probing.{bounded-facts}
 use borrow.Author.Needs.{needs}
 use Rattle.probe.proofs.probe_section_len.Statement.{statement}
 use Rattle.probe.proofs.probe_section_len.Tie as tie
-use Rattle.probe.proofs.probe_section_len.Reads as reads
-use Rattle.probe.proofs.probe_section_len.Lts as lts
-use Rattle.encoding.proofs.Encoding.for_builder.Reads as for-builder-reads
-use Rattle.encoding.proofs.Encoding.section_len.Reads as section-len-reads
-use Rattle.probe.proofs.bounded.Reads as bounded-reads
 
--- src/lib.rt:135:15
 element-copy-out-t6 : tie.Need-element-copy-out-t6
 element-copy-out-t6 c = search needs
 
--- src/lib.rt:136:19
 element-copy-out-t9 : tie.Need-element-copy-out-t9
 element-copy-out-t9 c = search needs
 
--- src/lib.rt:137:23
 element-copy-out-t12 : tie.Need-element-copy-out-t12
 element-copy-out-t12 c = search needs
 
--- src/lib.rt:138:18
 element-copy-out-t15 : tie.Need-element-copy-out-t15
 element-copy-out-t15 c = search needs
 
--- src/lib.rt:139:18
 element-copy-out-t18 : tie.Need-element-copy-out-t18
 element-copy-out-t18 c = search needs
 
--- src/lib.rt:140:22
 element-copy-out-t21 : tie.Need-element-copy-out-t21
 element-copy-out-t21 c = search needs
 
--- src/lib.rt:141:24
 element-copy-out-t24 : tie.Need-element-copy-out-t24
 element-copy-out-t24 c = search needs
 
--- src/lib.rt:142:23
 element-copy-out-t27 : tie.Need-element-copy-out-t27
 element-copy-out-t27 c = search needs
 
--- src/lib.rt:143:28
 element-copy-out-t30 : tie.Need-element-copy-out-t30
 element-copy-out-t30 c = search needs
 
--- src/lib.rt:145:9
 bounded-requires : tie.Need-bounded-requires
 bounded-requires c κs = search needs
 
--- src/lib.rt:146:9
 returns : tie.Need-returns
 unfolding lengthProbe totalsOf if_then_else_
 returns c = rw (sym (c .before .bounded .ensures) ∙ not-true _ (c .if1 .taken))
 
--- src/lib.rt:148:5
 for-builder-requires : tie.Need-for-builder-requires
 for-builder-requires c κs = bounded-facts _ (sym (c .before .bounded .ensures) ∙ not-false _ (c .if1 .left))
 
--- src/lib.rt:148:5
 section-len-requires : tie.Need-section-len-requires
 section-len-requires c κs =
     let b = bounded-facts _ (sym (c .before .before .bounded .ensures) ∙ not-false _ (c .before .if1 .left)) in
     (subst⁻¹ Widths (c .for-builder .ensures) (encodingOf-widths _ b), b)
 
--- src/lib.rt:130:1
 returns-2 : tie.Need-returns-2
 unfolding lengthProbe totalsOf if_then_else_
 returns-2 c =

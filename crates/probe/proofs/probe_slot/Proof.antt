@@ -5,29 +5,21 @@ use Rattle.probe.proofs.Probing.{no-slots, wide-pilot, a-slot}
 use borrow.Author.Needs.{needs}
 use Rattle.probe.proofs.probe_slot.Statement.{statement}
 use Rattle.probe.proofs.probe_slot.Tie as tie
-use Rattle.probe.proofs.probe_slot.Reads as reads
-use Rattle.probe.proofs.probe_slot.Lts as lts
-use Rattle.point.proofs.slot.Reads as slot-reads
 
--- src/lib.rt:91:9
 returns : tie.Need-returns
 unfolding slotProbe if_then_else_
 returns c = rw (no-slots _ _ (c .if1 .taken))
 
--- src/lib.rt:94:9
 returns-2 : tie.Need-returns-2
 unfolding slotProbe if_then_else_
 returns-2 c = rw (wide-pilot _ _ (c .before .if1 .left) (c .if2 .taken))
 
--- src/lib.rt:96:20
 cast-slot : tie.Need-cast-slot
 cast-slot c = search needs
 
--- src/lib.rt:96:5
 slot-requires : tie.Need-slot-requires
 slot-requires c κs = search needs
 
--- src/lib.rt:86:1
 returns-3 : tie.Need-returns-3
 unfolding slotProbe if_then_else_
 returns-3 c = c .slot .ensures ∙ rw (a-slot _ _ (c .before .before .if1 .left) (c .before .if2 .left))

@@ -6,38 +6,28 @@ use Rattle.sstable.specs.Trailer.{trailerNumber}
 use borrow.Author.Needs.{needs}
 use Rattle.probe.proofs.probe_trailer.Statement.{statement}
 use Rattle.probe.proofs.probe_trailer.Tie as tie
-use Rattle.probe.proofs.probe_trailer.Reads as reads
-use Rattle.probe.proofs.probe_trailer.Lts as lts
-use Rattle.sstable.proofs.verify_trailer.Reads as verify-trailer-reads
 
--- src/lib.rt:111:9
 verify-trailer-requires : tie.Need-verify-trailer-requires
 unfolding crc-defs choice-defs table-defs
 verify-trailer-requires c κs = refl
 
--- src/lib.rt:113:27
 enum-told : tie.Need-enum-told
 enum-told c = search needs
 
--- src/lib.rt:114:33
 enum-told-2 : tie.Need-enum-told-2
 enum-told-2 c = search needs
 
--- src/lib.rt:115:38
 enum-told-3 : tie.Need-enum-told-3
 enum-told-3 c = search needs
 
--- src/lib.rt:106:1
 returns : tie.Need-returns
 unfolding trailerNumber
 returns c = ap trailerNumber (sym (c .enum-told .given .1) ∙ c .before .before .verify-trailer .ensures)
 
--- src/lib.rt:106:1
 returns-2 : tie.Need-returns-2
 unfolding trailerNumber
 returns-2 c = ap trailerNumber (sym (c .enum-told2 .given .1) ∙ c .before .before .verify-trailer .ensures)
 
--- src/lib.rt:106:1
 returns-3 : tie.Need-returns-3
 unfolding trailerNumber
 returns-3 c = ap trailerNumber (sym (c .enum-told3 .given .1) ∙ c .before .before .verify-trailer .ensures)

@@ -5,16 +5,11 @@ use Rattle.crc32.specs.Table.{table-defs}
 use borrow.Author.Needs.{needs}
 use Rattle.probe.proofs.probe_verify.Statement.{statement}
 use Rattle.probe.proofs.probe_verify.Tie as tie
-use Rattle.probe.proofs.probe_verify.Reads as reads
-use Rattle.probe.proofs.probe_verify.Lts as lts
-use Rattle.probe.proofs.probe_verify_lent.Reads as probe-verify-lent-reads
 
--- src/lib.rt:187:5
 probe-verify-lent-requires : tie.Need-probe-verify-lent-requires
 unfolding crc-defs choice-defs table-defs
 probe-verify-lent-requires c κs = refl
 
--- src/lib.rt:182:1
 returns : tie.Need-returns
 returns c = search needs
 

@@ -4,42 +4,31 @@ use Rattle.probe.specs.Probe.{metaWritten}
 use borrow.Author.Needs.{needs}
 use Rattle.probe.proofs.probe_verify_lent.Statement.{statement}
 use Rattle.probe.proofs.probe_verify_lent.Tie as tie
-use Rattle.probe.proofs.probe_verify_lent.Reads as reads
-use Rattle.probe.proofs.probe_verify_lent.Lts as lts
-use Rattle.block.proofs.verify.Reads as verify-reads
 
--- src/lib.rt:170:9
 verify-requires : tie.Need-verify-requires
 verify-requires c κs = search needs
 
--- src/lib.rt:172:25
 enum-known-found : tie.Need-enum-known-found
 enum-known-found c = search needs
 
--- src/lib.rt:173:13
 element-write-meta : tie.Need-element-write-meta
 element-write-meta c = search needs
 
--- src/lib.rt:174:13
 element-write-meta-2 : tie.Need-element-write-meta-2
 element-write-meta-2 c = search needs
 
--- src/lib.rt:175:13
 element-write-meta-3 : tie.Need-element-write-meta-3
 element-write-meta-3 c = search needs
 
--- src/lib.rt:178:30
 enum-told : tie.Need-enum-told
 enum-told c = search needs
 
--- src/lib.rt:165:1
 returns : tie.Need-returns
 unfolding verifiedNumber metaWritten
 returns c =
     let e = sym (c .before .before .before .verify .ensures) ∙ c .before .found .given .1 in
     (rw e, rw e)
 
--- src/lib.rt:165:1
 returns-2 : tie.Need-returns-2
 unfolding verifiedNumber metaWritten
 returns-2 c =
