@@ -67,6 +67,10 @@ fn fixed(run: &mut Run) {
         let key: Vec<u8> = (0..length).map(|i| i * 41 + length).collect();
         (0..8).for_each(|shift| hash(run, &key, u64::from(length), shift));
     }
+    // Lengths of more than 16 bits.
+    for length in [65_535, 65_536, 65_543, 1 << 20] {
+        hash(run, &vec![0x5a; length], 1, 0);
+    }
     let numbers: Vec<u64> = (0..64).flat_map(|bit| [1 << bit, u64::MAX >> bit]).chain([0]).collect();
     let pilots = [0, 1, 99_999, (1 << 23) - 1, 1 << 23, (1 << 31) - 1, 1 << 31, (1 << 31) + 5, u32::MAX];
     for &h in &numbers {

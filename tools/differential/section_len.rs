@@ -35,7 +35,9 @@ fn ask(case: &Case) -> Option<(Answer, Answer)> {
 fn fixed(run: &mut Run) {
     for prefix in [0, 1, 24, 25] {
         run.compare(ask, Case::new("section_len", &[0, 0, 0, 0, 0, 0, 0, 0, 0, prefix], &[]));
-        run.compare(ask, Case::new("section_len", &[2, 3, 3, 3, 7, 2, 3, 2, 69, prefix], &[]));
+        for keys in [1, 2, 3, 1024, 65_537, 1 << 20] {
+            run.compare(ask, Case::new("section_len", &[keys, 3, 3, 3, 7, 2, 3, 2, 69, prefix], &[]));
+        }
     }
     // The edges of each width, one number at a time.
     for edge in [255, 256, 65_535, 65_536, 32_767, 32_768, (1 << 32) - 1, 1 << 32] {
@@ -49,7 +51,7 @@ fn fixed(run: &mut Run) {
 
 fn round(run: &mut Run, rng: &mut Rng) {
     let mut total = |bits: u32| rng.wide() & ((1 << bits) - 1);
-    let small = [total(12), total(30), total(30)];
+    let small = [total(24), total(30), total(30)];
     let most = [total(20), total(24), total(30)];
     let (a, b) = (rng.wide(), rng.wide());
     let prefix = rng.between(0, 26) as u64;

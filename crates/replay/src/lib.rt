@@ -2,9 +2,11 @@
 mod blocks;
 mod leaves;
 mod list;
+mod opens;
 
 ghost use Prim.Native.Nat.{_+_, _≤_, _<_};
 ghost use lib.ListN.{length};
+use libc::STDOUT_FILENO;
 use list::Checked;
 
 pub struct Tally {
@@ -21,6 +23,7 @@ fn check(list: &[u8], name: u8, at: usize) -> Checked
         b'c' => leaves::crc(list, at),
         b'h' => leaves::hash(list, at),
         b't' => leaves::trailer(list, at),
+        b'o' => opens::open(list, at),
         b'v' => blocks::verify(list, at),
         _ => blocks::walk(list, at),
     }
@@ -42,4 +45,23 @@ pub fn replay(list: &[u8], name: u8) -> Tally
         at = list::advance(list, at, c.size);
     }
     Tally { agree, differ }
+}
+
+// Replays the list in a file, and writes a line with the counts.
+pub fn report(name: &[u8], letter: u8) {
+    let mut list = [0u8; 16384];
+    let file = os::open_read(name);
+    if file < 0 {
+        os::fail(name);
+        return;
+    }
+    let n = io::read_full(file, &mut list);
+    libc::close(file);
+    let t = replay(&list[0..n], letter);
+    io::write_all(STDOUT_FILENO, name);
+    io::write_all(STDOUT_FILENO, b" agree ");
+    io::print_decimal(STDOUT_FILENO, t.agree);
+    io::write_all(STDOUT_FILENO, b" differ ");
+    io::print_decimal(STDOUT_FILENO, t.differ);
+    io::write_all(STDOUT_FILENO, b"\n");
 }
