@@ -4,4 +4,5 @@ pub mod Covers
 pub mod Pairs
 pub mod Stored
 pub mod Opening
+pub mod PackedOpening
 pub mod Examples

@@ -12,10 +12,11 @@ use lib.ListN.{length}
 use borrow.Author.Tests.{eqb-true, eqb-false, eq-eqb, ltb-true, lt-ltb}
 use Rattle.num.specs.Choice.{both}
 use Rattle.num.specs.Number.{leAt}
-use Rattle.num.proofs.Choice.{both-true, true-both, asked-where, where-asked, if-first, if-true}
+use Rattle.num.proofs.Choice.{both-true, where-asked, if-first, if-true}
+use Rattle.num.proofs.Steps.{yes-each}
 use Rattle.sstable.specs.declared.Trailer.{Trailer}
 use Rattle.sstable.specs.declared.Trailer.the-variants.{Sound, UnknownType, ChecksumMismatch}
-use Rattle.sstable.specs.Trailer.{trailerOf}
+use Rattle.sstable.specs.Trailer.{trailerOf, SoundTrailer}
 use Rattle.sstable.proofs.TrailerLaws.{sound-trailer, trailer-asks}
 use Rattle.point.specs.Hash.{isDirect, directSlot}
 use Rattle.encoding.specs.Encoding.{headerLen}
@@ -27,7 +28,8 @@ use Rattle.header.specs.Facts.{Header}
 use Rattle.header.proofs.Headers.{header-facts, facts-header}
 use Rattle.arena.specs.declared.Cursor.{Cursor}
 use Rattle.opening.specs.Walk.{State, Store, Ended, ended, refused, pairsFrom}
-use Rattle.opening.specs.Open.{pilotInside, pilotsInside, startAt, endsTogether, prefixesCounted, endFor, storeOf, contentsOf, contentsFor, openFor, openOf}
+use Rattle.opening.specs.Open.{pilotInside, pilotsInside, startAt, endsTogether, prefixesCounted, endFor, storeOf, contentsOf, contentsFor, headerFor, checkedHeaderOf, openOf}
+use Rattle.opening.proofs.Pilots.{pilots-each, pilot-slot}
 use Rattle.agreement.specs.Entries.{Progress, progressOf}
 use Rattle.agreement.specs.Agrees.{Agrees, startOf}
 use Rattle.agreement.proofs.Walk.{accepted-exactly}
@@ -38,31 +40,11 @@ use Rattle.admission.proofs.Pairs.{pairs-exactly}
 refused-accepted : {A : Type 0} (n : ℕ) (o : Opened) → Refused n ≡ Accepted o → A
 refused-accepted n o e = absurd (let z : _≡_ {A = ℕ} 0 1 = cc in omega arith)
 
--- question 10 of one pilot, both ways
-pilot-yes : (s : List ℕ) (o : Opened) (k : ℕ) → pilotInside s o k ≡ true → isDirect (leAt s (headerLen + 4 * k) 4) ≡ true
-    → directSlot (leAt s (headerLen + 4 * k) 4) < o .count
-unfolding pilotInside
-pilot-yes s o k e d = ltb-true _ _ (asked-where (isDirect (leAt s (headerLen + 4 * k) 4)) _ e d)
-
+-- question 10 of one pilot
 yes-pilot : (s : List ℕ) (o : Opened) (k : ℕ)
     → (isDirect (leAt s (headerLen + 4 * k) 4) ≡ true → directSlot (leAt s (headerLen + 4 * k) 4) < o .count) → pilotInside s o k ≡ true
 unfolding pilotInside
 yes-pilot s o k h = where-asked (isDirect (leAt s (headerLen + 4 * k) 4)) _ (λ d. lt-ltb _ _ (h d))
-
--- question 10 of the first pilots, both ways
-pilots-yes : (s : List ℕ) (o : Opened) (n : ℕ) → pilotsInside s o n ≡ true → (k : ℕ) → k < n → pilotInside s o k ≡ true
-unfolding pilotsInside
-pilots-yes s o zero e k h = absurd (not-suc-le-zero h)
-pilots-yes s o (suc n) e k h = go (eqb k n) refl (pilots-yes s o n (both-true _ _ e .0) k)
-  where
-    go : (b : Bool) → eqb k n ≡ b → (k < n → pilotInside s o k ≡ true) → pilotInside s o k ≡ true
-    go true p before = subst⁻¹ (λ (i : ℕ). pilotInside s o i ≡ true) (eqb-true k n p) (both-true _ _ e .1)
-    go false p before = let d = eqb-false k n p in before (omega arith)
-
-yes-pilots : (s : List ℕ) (o : Opened) (n : ℕ) → ((k : ℕ) → k < n → pilotInside s o k ≡ true) → pilotsInside s o n ≡ true
-unfolding pilotsInside
-yes-pilots s o zero h = refl
-yes-pilots s o (suc n) h = true-both _ _ (yes-pilots s o n (λ k l. h k (omega arith))) (h n (omega arith))
 
 -- the state before the first pair
 firstState : Opened → State
@@ -95,12 +77,12 @@ unfolding endFor
 finish t at st e c = if-true _ _ _ e ∙ if-true _ _ _ c
 
 -- questions 10 to 23 of a record: what they accept, and what they ask
-record Contents (s «data» blocks : List ℕ) (scratch : ℕ) (o : Opened) : Type 0 where
-  pilots : PilotsInside s o
-  covers : Covers «data» blocks
-  agrees : Agrees (storeOf s «data» scratch o) (storeEntries «data» blocks)
+pub record Contents (s «data» blocks : List ℕ) (scratch : ℕ) (o : Opened) : Type 0 where
+  pub pilots : PilotsInside s o
+  pub covers : Covers «data» blocks
+  pub agrees : Agrees (storeOf s «data» scratch o) (storeEntries «data» blocks)
 
-contents-asks : (s «data» blocks : List ℕ) (scratch : ℕ) (o p : Opened) → contentsOf s «data» blocks scratch o ≡ Accepted p
+pub contents-asks : (s «data» blocks : List ℕ) (scratch : ℕ) (o p : Opened) → contentsOf s «data» blocks scratch o ≡ Accepted p
     → Contents s «data» blocks scratch o × (o ≡ p)
 unfolding contentsOf storeOf firstState startOf progressOf
 contents-asks s «data» blocks scratch o p e =
@@ -112,52 +94,58 @@ contents-asks s «data» blocks scratch o p e =
     let w = pairs-exactly t blocks (firstState o) (progressOf (f .last)) .0 (f .last, f .through ∙ ap (λ (n : ℕ). ended n (f .last)) d, refl) in
     let g = accepted-exactly t (storeEntries «data» blocks) (f .at) .0 (progressOf (f .last), w .1, f .together, f .counted) in (
       record {
-        pilots = record { direct = λ k h. pilot-yes s o k (pilots-yes s o (o .buckets) (e₁ .0) k h) };
+        pilots = record { direct = λ k h. pilot-slot s o k (pilots-each s o (e₁ .0) k h) };
         covers = w .0;
         agrees = g .1;
       },
       f .same,
     )
 
-asks-contents : (s «data» blocks : List ℕ) (scratch : ℕ) (o : Opened) → Contents s «data» blocks scratch o
+pub asks-contents : (s «data» blocks : List ℕ) (scratch : ℕ) (o : Opened) → Contents s «data» blocks scratch o
     → contentsOf s «data» blocks scratch o ≡ Accepted o
-unfolding contentsOf storeOf firstState startOf progressOf
+unfolding contentsOf pilotsInside storeOf firstState startOf progressOf
 asks-contents s «data» blocks scratch o c =
     let t = storeOf s «data» scratch o in
     let g = accepted-exactly t (storeEntries «data» blocks) (length «data») .1 (refl, c .agrees) in
     let w = pairs-exactly t blocks (firstState o) (g .0) .1 (c .covers, g .1) in
     let same : w .0 .cursor ≡ g .0 .cursor = ap (λ (q : Progress). q .cursor) (w .2) in
-    if-true _ _ _ (yes-pilots s o (o .buckets) (λ k h. yes-pilot s o k (c .pilots .direct k h)))
+    if-true _ _ _ (yes-each (pilotInside s o) (o .buckets) (λ k h. yes-pilot s o k (c .pilots .direct k h)))
     ∙ if-true _ _ _ (eq-eqb _ _ (c .covers .even))
     ∙ ap (endFor t) (w .1)
     ∙ finish t (length «data») (w .0) (subst⁻¹ (λ (x : Cursor). endsTogether t (length «data») x ≡ true) same (g .2))
     (subst⁻¹ (λ (x : Cursor). prefixesCounted t x ≡ true) same (g .3))
 
-header-asks : (s «data» blocks : List ℕ) (scratch : ℕ) (o : Opened) (h : HeaderRead) → headerOf s ≡ h → contentsFor s «data» blocks scratch h ≡ Accepted o
-    → Header s o × Contents s «data» blocks scratch o
-unfolding contentsFor
-header-asks s «data» blocks scratch o (Refused n) eh e = refused-accepted n o e
-header-asks s «data» blocks scratch o (Accepted p) eh e =
-    let c = contents-asks s «data» blocks scratch p o e in
-    subst (λ (q : Opened). Header s q × Contents s «data» blocks scratch q) (c .1) (header-facts s p eh, c .0)
+-- questions 1 to 6, both ways
+pub checked-asks : (s : List ℕ) (o : Opened) → checkedHeaderOf s ≡ Accepted o → SoundTrailer s × Header s o
+unfolding checkedHeaderOf headerFor
+checked-asks s o = go (trailerOf s) refl
+  where
+    go : (r : Trailer) → trailerOf s ≡ r → headerFor s r ≡ Accepted o → SoundTrailer s × Header s o
+    go UnknownType q e = refused-accepted 1 o e
+    go ChecksumMismatch q e = refused-accepted 2 o e
+    go Sound q e = (trailer-asks s q, header-facts s o e)
 
-open-asks : (s «data» blocks : List ℕ) (scratch : ℕ) (o : Opened) (r : Trailer) → trailerOf s ≡ r → openFor s «data» blocks scratch r ≡ Accepted o
+pub asks-checked : (s : List ℕ) (o : Opened) → SoundTrailer s → Header s o → checkedHeaderOf s ≡ Accepted o
+unfolding checkedHeaderOf headerFor
+asks-checked s o t h = ap (headerFor s) (sound-trailer s t) ∙ facts-header s o h
+
+open-asks : (s «data» blocks : List ℕ) (scratch : ℕ) (o : Opened) (h : HeaderRead) → checkedHeaderOf s ≡ h → contentsFor s «data» blocks scratch h ≡ Accepted o
     → Admits s «data» blocks scratch o
-unfolding openFor
-open-asks s «data» blocks scratch o UnknownType er e = refused-accepted 1 o e
-open-asks s «data» blocks scratch o ChecksumMismatch er e = refused-accepted 2 o e
-open-asks s «data» blocks scratch o Sound er e =
-    let h = header-asks s «data» blocks scratch o (headerOf s) refl e in
-    record { trailer = trailer-asks s er; header = h .0; pilots = h .1 .pilots; covers = h .1 .covers; agrees = h .1 .agrees }
+unfolding contentsFor
+open-asks s «data» blocks scratch o (Refused n) eh e = refused-accepted n o e
+open-asks s «data» blocks scratch o (Accepted p) eh e =
+    let c = contents-asks s «data» blocks scratch p o e in
+    let h = checked-asks s p eh in
+    subst (Admits s «data» blocks scratch) (c .1)
+    (record { trailer = h .0; header = h .1; pilots = c .0 .pilots; covers = c .0 .covers; agrees = c .0 .agrees })
 
 asks-open : (s «data» blocks : List ℕ) (scratch : ℕ) (o : Opened) → Admits s «data» blocks scratch o → openOf s «data» blocks scratch ≡ Accepted o
-unfolding openOf openFor contentsFor
+unfolding openOf contentsFor
 asks-open s «data» blocks scratch o a =
-    ap (openFor s «data» blocks scratch) (sound-trailer s (a .trailer))
-    ∙ ap (contentsFor s «data» blocks scratch) (facts-header s o (a .header))
+    ap (contentsFor s «data» blocks scratch) (asks-checked s o (a .trailer) (a .header))
     ∙ asks-contents s «data» blocks scratch o (record { pilots = a .pilots; covers = a .covers; agrees = a .agrees })
 
 -- a section is accepted beside data, a block list and a key scratch, with a record, exactly if they are admitted
 pub open-exactly : (s «data» blocks : List ℕ) (scratch : ℕ) (o : Opened) → (openOf s «data» blocks scratch ≡ Accepted o) ↔ Admits s «data» blocks scratch o
 unfolding openOf
-open-exactly s «data» blocks scratch o = (open-asks s «data» blocks scratch o (trailerOf s) refl, asks-open s «data» blocks scratch o)
+open-exactly s «data» blocks scratch o = (open-asks s «data» blocks scratch o (checkedHeaderOf s) refl, asks-open s «data» blocks scratch o)

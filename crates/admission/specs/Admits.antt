@@ -1,8 +1,9 @@
--- What a plain opening accepts, question by question, in plain terms (document 01, "Opening, question by question").
+-- What the openings accept, question by question, in plain terms (document 01, "Opening, question by question").
 use mathlib.Core.Path.{_≡_}
 use mathlib.Core.Bool.{true}
 use mathlib.Core.List.{List}
-use Prim.Native.Nat.{ℕ, _+_, _*_, _<_}
+use Prim.Native.Nat.{ℕ, _+_, _*_, _^_, _<_, _≤_}
+use lib.ListN.{length}
 use Rattle.num.specs.Number.{leAt}
 use Rattle.sstable.specs.Trailer.{SoundTrailer}
 use Rattle.point.specs.Hash.{isDirect, directSlot}
@@ -10,6 +11,7 @@ use Rattle.encoding.specs.Encoding.{headerLen}
 use Rattle.header.specs.declared.Opened.{Opened}
 use Rattle.header.specs.Facts.{Header}
 use Rattle.opening.specs.Open.{storeOf}
+use Rattle.packing.specs.Packing.{packedBytes}
 use Rattle.agreement.specs.Agrees.{Agrees}
 use Rattle.admission.specs.Blocks.{Covers, storeEntries}
 
@@ -30,3 +32,19 @@ pub record Admits (s «data» blocks : List ℕ) (scratch : ℕ) (o : Opened) : 
   pub covers : Covers «data» blocks
   -- questions 14 to 23 of every record, key and version
   pub agrees : Agrees (storeOf s «data» scratch o) (storeEntries «data» blocks)
+
+-- question 8: each pilot without bit 31 is below 2^23
+pub record PilotsPack (s : List ℕ) (o : Opened) : Type 0 where
+  pub below : (k : ℕ) → k < o .buckets → directSlot (leAt s (headerLen + 4 * k) 4) < 2 ^ 23
+
+-- the same for a packed opening with an output of a length; the record is still the one that the section's header says
+pub record AdmitsPacked (s «data» blocks : List ℕ) (scratch room : ℕ) (o : Opened) : Type 0 where
+  -- questions 1 to 6 and 10 to 23
+  pub admits : Admits s «data» blocks scratch o
+  -- question 7
+  pub checksums : o .encoding .checksum ≡ true
+  pub few : o .count < 2 ^ 23
+  -- question 8
+  pub pilots : PilotsPack s o
+  -- question 9
+  pub holds : length (packedBytes s o) ≤ room

@@ -84,7 +84,7 @@ pub enum Visited {
 }
 
 // The numbers of the key header at a place.
-fn key_header_at(section: &[u8], e: Encoding, pos: usize) -> KeyHeader
+pub fn key_header_at(section: &[u8], e: Encoding, pos: usize) -> KeyHeader
     requires { ⌜ Widths e ⌝ }
     requires { ⌜ pos + keyHeaderOf e ≤ length (now section) ⌝ }
     ensures { λ r. ⌜ r ≡ keyHeaderAt (now (section .entry)) e pos ⌝ }

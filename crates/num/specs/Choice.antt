@@ -1,5 +1,5 @@
 -- Choices by tests, as the definitions of all crates write them.
-use Prim.Native.Nat.{ℕ}
+use Prim.Native.Nat.{ℕ, zero, suc}
 use mathlib.Core.Bool.{Bool, true, false}
 use mathlib.Core.List.{List, [], _∷_}
 use lib.Dec.{eqb}
@@ -22,7 +22,12 @@ unfoldable pub oneOf : List ℕ → ℕ → Bool
 oneOf [] n = false
 oneOf (x ∷ xs) n = either (eqb n x) (oneOf xs n)
 
+-- does the test hold of every number below n?
+unfoldable pub eachBelow : ℕ → (ℕ → Bool) → Bool
+eachBelow zero test = true
+eachBelow (suc k) test = both (eachBelow k test) (test k)
+
 -- names all definitions of this file: `unfolding choice-defs` opens them
 unfoldable pub choice-defs : ℕ
-unfolding if_then_else_ both either oneOf
+unfolding if_then_else_ both either oneOf eachBelow
 choice-defs = 0

@@ -11,6 +11,9 @@ use lib.ListN.{length}
 use borrow.Author.Tests.{eqb-true, eqb-false, eq-eqb, ne-eqb}
 use Rattle.num.proofs.Choice.{if-yes, if-no}
 use Rattle.crc32.specs.Table.{isTable}
+use Rattle.sstable.specs.declared.Trailer.{Trailer}
+use Rattle.sstable.specs.declared.Trailer.the-variants.{Sound, UnknownType, ChecksumMismatch}
+use Rattle.sstable.specs.Trailer.{trailerOf}
 use Rattle.encoding.specs.Encoding.{scanHeaderLen}
 use Rattle.header.specs.declared.Opened.{Opened}
 use Rattle.header.specs.declared.HeaderRead.the-variants.{Accepted, Refused}
@@ -23,7 +26,7 @@ use Rattle.opening.specs.declared.Carried.{Carried}
 use Rattle.opening.specs.declared.BlocksOpened.{BlocksOpened}
 use Rattle.opening.specs.declared.BlocksOpened.the-variants as blocks-opened
 use Rattle.opening.specs.Walk.{ended, pairsFrom}
-use Rattle.opening.specs.Open.{pilotsInside, startAt, endsTogether, prefixesCounted, endFor, storeOf, contentsOf}
+use Rattle.opening.specs.Open.{pilotsInside, startAt, endsTogether, prefixesCounted, endFor, storeOf, contentsOf, headerFor, checkedHeaderOf}
 use Rattle.opening.specs.Scratch.{storeWith, stateIn, Ready, endedFor}
 use Rattle.opening.proofs.Pilots.{pilots-each, pilot-slot}
 
@@ -54,7 +57,7 @@ module _ (s : List ℕ) (o : Opened) (e : headerOf s ≡ Accepted o) where
       go true p = inl (eqb-true (o .scan) 0 p)
       go false p = inr (omega (arith, scan-end s o facts (scan-part s o facts (eqb-false (o .scan) 0 p))))
 
-  module _ (p : pilotsInside s o (o .buckets) ≡ true) where
+  module _ (p : pilotsInside s o ≡ true) where
     -- a header that passed 3 to 6 with pilots that passed 10 can be read
     pub accepted-readable : Readable s o
     accepted-readable =
@@ -67,7 +70,7 @@ module _ (s : List ℕ) (o : Opened) (e : headerOf s ≡ Accepted o) where
           arena = facts .start;
           arena-inside = omega (arith, facts .below);
           scan-inside = scan-fits;
-          pilots = λ k h. pilot-slot s o k (pilots-each s o (o .buckets) k p h);
+          pilots = λ k h. pilot-slot s o k (pilots-each s o p k h);
         }
 
     -- the walk starts in the arena
@@ -104,11 +107,11 @@ module _ (s : List ℕ) (o : Opened) (e : headerOf s ≡ Accepted o) where
 
 module _ (s «data» blocks : List ℕ) (scratch : ℕ) (o : Opened) where
   -- question 10 fails
-  pub contents-10 : pilotsInside s o (o .buckets) ≡ false → Refused 10 ≡ contentsOf s «data» blocks scratch o
+  pub contents-10 : pilotsInside s o ≡ false → Refused 10 ≡ contentsOf s «data» blocks scratch o
   unfolding contentsOf
   contents-10 p = if-no _ _ _ _ p refl
 
-  module _ (p : pilotsInside s o (o .buckets) ≡ true) where
+  module _ (p : pilotsInside s o ≡ true) where
     -- the list is odd
     pub contents-odd : (length blocks % 2 ≡ 0 → ⊥) → Refused 11 ≡ contentsOf s «data» blocks scratch o
     unfolding contentsOf
@@ -136,3 +139,13 @@ module _ (s «data» blocks : List ℕ) (scratch : ℕ) (o : Opened) where
             ap (λ (n : ℕ). endFor (storeWith s «data» o n 0) (ended at (record { key = []; previous = []; cursor = after .cursor }))) q
             ∙ sym (ap (λ (y : BlocksOpened). endFor (storeOf s «data» scratch o) (endedFor (scratch / 2) left y)) x)
             ∙ walked
+
+-- a header that passes questions 1 to 6 passes 3 to 6
+pub checked-header : (s : List ℕ) (o : Opened) → checkedHeaderOf s ≡ Accepted o → headerOf s ≡ Accepted o
+unfolding checkedHeaderOf headerFor
+checked-header s o = go (trailerOf s)
+  where
+    go : (r : Trailer) → headerFor s r ≡ Accepted o → headerOf s ≡ Accepted o
+    go UnknownType e = absurd (let z : _≡_ {A = ℕ} 0 1 = cc in omega arith)
+    go ChecksumMismatch e = absurd (let z : _≡_ {A = ℕ} 0 1 = cc in omega arith)
+    go Sound e = e

@@ -1,10 +1,10 @@
 -- Opening: questions 1 to 6, 10 to 23 in their order (document 01, "Opening, question by question").
-use Prim.Native.Nat.{ℕ, zero, suc, _+_, _*_, _/_, _%_}
+use Prim.Native.Nat.{ℕ, _+_, _*_, _/_, _%_}
 use mathlib.Core.List.{List, []}
 use mathlib.Core.Bool.{Bool, true, not}
 use lib.Dec.{eqb, ltb}
 use lib.ListN.{length}
-use Rattle.num.specs.Choice.{if_then_else_, both, either}
+use Rattle.num.specs.Choice.{if_then_else_, both, either, eachBelow}
 use Rattle.num.specs.Number.{leAt}
 use Rattle.sstable.specs.declared.Trailer.{Trailer}
 use Rattle.sstable.specs.declared.Trailer.the-variants.{Sound, UnknownType, ChecksumMismatch}
@@ -22,10 +22,9 @@ use Rattle.opening.specs.Walk.{Store, Ended, ended, refused, pairsFrom}
 unfoldable pub pilotInside : List ℕ → Opened → ℕ → Bool
 pilotInside s o k = either (not (isDirect (leAt s (headerLen + 4 * k) 4))) (ltb (directSlot (leAt s (headerLen + 4 * k) 4)) (o .count))
 
--- question 10 of the first pilots, as many as the count says
-unfoldable pub pilotsInside : List ℕ → Opened → ℕ → Bool
-pilotsInside s o zero = true
-pilotsInside s o (suc k) = both (pilotsInside s o k) (pilotInside s o k)
+-- question 10
+unfoldable pub pilotsInside : List ℕ → Opened → Bool
+pilotsInside s o = eachBelow (o .buckets) (pilotInside s o)
 
 -- the cursor at the arena's start
 unfoldable pub startAt : Opened → Cursor
@@ -73,7 +72,7 @@ storeOf s «data» scratch o =
 -- questions 10 to 23, for a key scratch of a length: the record, or the first "no"
 unfoldable pub contentsOf : List ℕ → List ℕ → List ℕ → ℕ → Opened → HeaderRead
 contentsOf s «data» blocks scratch o =
-    if pilotsInside s o (o .buckets)
+    if pilotsInside s o
     then if eqb (length blocks % 2) 0
     then endFor (storeOf s «data» scratch o) (pairsFrom (storeOf s «data» scratch o) blocks 0 (record { key = []; previous = []; cursor = startAt o }))
     else Refused 11
@@ -83,17 +82,20 @@ unfoldable pub contentsFor : List ℕ → List ℕ → List ℕ → ℕ → Head
 contentsFor s «data» blocks scratch (Refused n) = Refused n
 contentsFor s «data» blocks scratch (Accepted o) = contentsOf s «data» blocks scratch o
 
--- questions 3 to 23 after the trailer
-unfoldable pub openFor : List ℕ → List ℕ → List ℕ → ℕ → Trailer → HeaderRead
-openFor s «data» blocks scratch UnknownType = Refused 1
-openFor s «data» blocks scratch ChecksumMismatch = Refused 2
-openFor s «data» blocks scratch Sound = contentsFor s «data» blocks scratch (headerOf s)
+unfoldable pub headerFor : List ℕ → Trailer → HeaderRead
+headerFor s UnknownType = Refused 1
+headerFor s ChecksumMismatch = Refused 2
+headerFor s Sound = headerOf s
+
+-- questions 1 to 6: the trailer, then the header
+unfoldable pub checkedHeaderOf : List ℕ → HeaderRead
+checkedHeaderOf s = headerFor s (trailerOf s)
 
 -- the plain opening of a section beside backing data and a block list, with a key scratch of a length
 unfoldable pub openOf : List ℕ → List ℕ → List ℕ → ℕ → HeaderRead
-openOf s «data» blocks scratch = openFor s «data» blocks scratch (trailerOf s)
+openOf s «data» blocks scratch = contentsFor s «data» blocks scratch (checkedHeaderOf s)
 
 -- names all definitions of this file: `unfolding open-defs` opens them
 unfoldable pub open-defs : ℕ
-unfolding pilotInside pilotsInside startAt endsTogether prefixesCounted endFor storeOf contentsOf contentsFor openFor openOf
+unfolding pilotInside pilotsInside startAt endsTogether prefixesCounted endFor storeOf contentsOf contentsFor headerFor checkedHeaderOf openOf
 open-defs = 0

@@ -14,7 +14,7 @@ ghost use lib.Dec.{eqb, leb};
 ghost use Rattle.num.specs.Number.{leAt};
 ghost use Rattle.num.specs.Choice.{if_then_else_, both, either};
 ghost use Rattle.opening.specs.Walk.{more, placed, recordAsked, askedAt, blockOf, blockAsked, ended, pairsFrom};
-ghost use Rattle.opening.specs.Open.{pilotInside, pilotsInside, startAt, endFor, contentsOf, openOf};
+ghost use Rattle.opening.specs.Open.{pilotInside, pilotsInside, startAt, endFor, contentsOf, checkedHeaderOf, openOf};
 ghost use Rattle.opening.specs.Scratch.{storeWith, stateIn, Held, Ready, recordHeld, Lies, entryIn, askedFor, blockHeld, answerFor, endedFor};
 use arena::Cursor;
 use arena::Found;
@@ -67,7 +67,7 @@ fn pilot_inside(section: &[u8], o: Opened, k: usize) -> bool
 // Question 10.
 fn pilots_inside(section: &[u8], o: Opened) -> bool
     requires { ⌜ 64 + 4 * o .buckets ≤ length (now section) ⌝ }
-    ensures { λ r. ⌜ r ≡ pilotsInside (now (section .entry)) o (o .buckets) ⌝ }
+    ensures { λ r. ⌜ r ≡ pilotsInside (now (section .entry)) o ⌝ }
 {
     let mut k = 0;
     while k < o.buckets {
@@ -521,22 +521,41 @@ pub fn contents(
     }
 }
 
+// Questions 1 to 6: the trailer, then the header.
+pub fn checked_header(table: &[[u32; 256]; 8], section: &[u8]) -> HeaderRead
+    requires { ⌜ isTable (now table) ≡ true ⌝ }
+    ensures { λ r. ⌜ r ≡ checkedHeaderOf (now (section .entry)) ⌝ }
+{
+    let trailer = sstable::verify_trailer(table, section);
+    match trailer {
+        Trailer::UnknownType => HeaderRead::Refused(1),
+        Trailer::ChecksumMismatch => HeaderRead::Refused(2),
+        Trailer::Sound => header::header(section),
+    }
+}
+
+fn open_with(
+    table: &[[u32; 256]; 8],
+    section: &[u8],
+    data: &[u8],
+    blocks: &[u64],
+    scratch: &mut [u8],
+) -> HeaderRead
+    requires { ⌜ isTable (now table) ≡ true ⌝ }
+    ensures { λ r. ⌜ r ≡ openOf (now (section .entry)) (now («data» .entry)) (now (blocks .entry)) (length (now (scratch .entry))) ⌝ }
+    ensures { λ r. ⌜ length (now (scratch .exit)) ≡ length (now (scratch .entry)) ⌝ }
+{
+    let read = checked_header(table, section);
+    match read {
+        HeaderRead::Refused(n) => HeaderRead::Refused(n),
+        HeaderRead::Accepted(o) => contents(table, section, data, blocks, scratch, o),
+    }
+}
+
 // The plain opening: the record of a section beside backing data and a block list, or the number of the first question that fails.
 pub fn open(section: &[u8], data: &[u8], blocks: &[u64], scratch: &mut [u8]) -> HeaderRead
     ensures { λ r. ⌜ r ≡ openOf (now (section .entry)) (now («data» .entry)) (now (blocks .entry)) (length (now (scratch .entry))) ⌝ }
     ensures { λ r. ⌜ length (now (scratch .exit)) ≡ length (now (scratch .entry)) ⌝ }
 {
-    let table = &crc32::SLICES;
-    let trailer = sstable::verify_trailer(table, section);
-    match trailer {
-        Trailer::UnknownType => HeaderRead::Refused(1),
-        Trailer::ChecksumMismatch => HeaderRead::Refused(2),
-        Trailer::Sound => {
-            let read = header::header(section);
-            match read {
-                HeaderRead::Refused(n) => HeaderRead::Refused(n),
-                HeaderRead::Accepted(o) => contents(table, section, data, blocks, scratch, o),
-            }
-        }
-    }
+    open_with(&crc32::SLICES, section, data, blocks, scratch)
 }

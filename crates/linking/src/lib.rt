@@ -1,0 +1,4 @@
+// Theorems only: two linkers that agree.
+pub fn nothing() -> u64 {
+    0
+}

@@ -1,0 +1,35 @@
+-- P3: what a lookup gives of an accepted store, plain or packed.
+-- Assumes nothing.
+use mathlib.Core.Path.{_≡_, sym, subst}
+use mathlib.Core.List.{List}
+use Prim.Native.Nat.{ℕ}
+use Rattle.header.specs.declared.Opened.{Opened}
+use Rattle.packing.specs.Packing.{packedBytes}
+use Rattle.admission.specs.Blocks.{storeEntries}
+use Rattle.admission.proofs.Opening.{open-exactly}
+use Rattle.admission.proofs.PackedOpening.{open-packed-exactly, fits-pass}
+use Rattle.locating.specs.Store.{LinkerStore, Accepted, plain, packed, Store}
+use Rattle.locating.specs.Looks.{Looks}
+use Rattle.locating.proofs.Indexed.{Indexed}
+use Rattle.locating.proofs.Plain.{plain-indexed}
+use Rattle.locating.proofs.Packed.{packed-indexed}
+use Rattle.locating.proofs.Core.{indexed-looks}
+
+-- a lookup can count on an accepted store
+store-indexed : (t : LinkerStore) → Store t → Indexed (t .bytes) (t .opened) (t .backing) (storeEntries (t .backing) (t .blocks))
+store-indexed t st = go (st .accepted)
+  where
+    go : Accepted t → Indexed (t .bytes) (t .opened) (t .backing) (storeEntries (t .backing) (t .blocks))
+    go (plain scratch e) =
+        plain-indexed (t .bytes) (t .backing) (t .blocks) scratch (t .opened) (st .data-bytes) (open-exactly (t .bytes) (t .backing) (t .blocks) scratch (t .opened) .0 e)
+    go (packed section scratch room e) =
+        let f = open-packed-exactly section (t .backing) (t .blocks) scratch room (t .opened) (t .bytes) .0 e in
+        let a = f .admits in
+        let x = packed-indexed section (t .backing) (t .blocks) scratch (f .plain) (st .data-bytes) (a .admits) (fits-pass (f .plain) (a .checksums) (a .few)) (a .pilots) in
+        subst (λ (s : List ℕ). Indexed s (t .opened) (t .backing) (storeEntries (t .backing) (t .blocks))) (sym (f .same-bytes))
+        (subst (λ (o : Opened). Indexed (packedBytes section (f .plain)) o (t .backing) (storeEntries (t .backing) (t .blocks))) (sym (f .same-record)) x)
+
+-- a lookup in an accepted store, plain or packed, is none exactly if no version of the key is within the limit, and otherwise the one of
+-- greatest sequence
+pub lookup-exactly : (t : LinkerStore) → Store t → (key : List ℕ) (limit : ℕ) → Looks t key limit
+lookup-exactly t st = indexed-looks t (store-indexed t st)

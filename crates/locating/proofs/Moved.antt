@@ -1,0 +1,181 @@
+-- The arena in the packed bytes: its keys and versions are those of the section, only their places move with its start.
+-- Assumes nothing.
+use mathlib.Core.Path.{_≡_, refl, ap, ap₂, _∙_}
+use mathlib.Core.List.{List, _++_}
+use mathlib.Core.Bool.{true}
+use Prim.Native.Nat.{ℕ, zero, suc, _+_, _*_, _-_, _<_, _≤_}
+use native.Mathlib.Omega.{arith}
+use lib.ListN.{take, drop}
+use Rattle.num.specs.Number.{leAt}
+use Rattle.num.proofs.Choice.{if-true}
+use Rattle.block.specs.Walk.{Entry}
+use Rattle.encoding.specs.Encoding.{keyHeaderOf, versionOf}
+use Rattle.header.specs.Header.{packedRecord}
+use Rattle.arena.specs.declared.KeyHeader.{KeyHeader}
+use Rattle.arena.specs.Key.{keyHeaderAt}
+use Rattle.arena.specs.Version.{storedSeq, storedValue, kindIn, lengthIn, storedOffset, storedChecksum}
+use Rattle.packing.proofs.Pieces.{leAt-parts}
+use Rattle.opening.specs.Walk.{Store}
+use Rattle.agreement.specs.Keys.{keyRecordLen, addressOf, headerOfKey, versionsOf, suffixPlace, anchorIndex, keyAt, firstVersion, versionPlace, versionSeq, versionKind, versionLength, versionOffset, versionChecksum}
+use Rattle.agreement.specs.Agrees.{Agrees}
+use Rattle.agreement.proofs.Indices.{anchor-le}
+use Rattle.agreement.proofs.Laws.{shared-inside, version-inside}
+
+-- every part of the arena of a store stands in w too, from the packed record's start on
+unfoldable pub ArenaKept : Store → List ℕ → Type 0
+ArenaKept t w =
+    (a n : ℕ) → t .opened .arena + a + n ≤ t .end
+    → take n (drop (packedRecord (t .opened) .arena + a) w) ≡ take n (drop (t .opened .arena + a) (t .section))
+
+module _ (t : Store) (w : List ℕ) (kept : ArenaKept t w) where
+  open Store t using (section as s, opened as o, end)
+
+  -- ---- at a place x of w and a place y of the section, as far from the two starts of the arena
+
+  -- stand the same parts
+  part-same : (x y n : ℕ) → x + o .arena ≡ y + packedRecord o .arena → o .arena ≤ y → y + n ≤ end → take n (drop x w) ≡ take n (drop y s)
+  unfolding ArenaKept
+  part-same x y n e l b =
+      let p : x ≡ packedRecord o .arena + (y - o .arena) = omega arith in
+      let q : o .arena + (y - o .arena) ≡ y = omega arith in
+      ap (λ (k : ℕ). take n (drop k w)) p ∙ kept (y - o .arena) n (omega arith) ∙ ap (λ (k : ℕ). take n (drop k s)) q
+
+  -- and the same numbers
+  number-same : (x y n : ℕ) → x + o .arena ≡ y + packedRecord o .arena → o .arena ≤ y → y + n ≤ end → leAt w x n ≡ leAt s y n
+  number-same x y n e l b = leAt-parts w s x y n (part-same x y n e l b)
+
+  -- and key headers
+  header-same : (x y : ℕ) → x + o .arena ≡ y + packedRecord o .arena → o .arena ≤ y → y + keyHeaderOf (o .encoding) ≤ end
+      → keyHeaderAt w (o .encoding) x ≡ keyHeaderAt s (o .encoding) y
+  unfolding keyHeaderAt keyHeaderOf
+  header-same x y e l b =
+      let address = o .encoding .address in
+      let key = o .encoding .key in
+      λ i. record {
+        anchor = number-same x y address e l (omega arith) i;
+        shared = number-same (x + address) (y + address) key (omega arith) (omega arith) (omega arith) i;
+        «suffix_len» = number-same (x + address + key) (y + address + key) key (omega arith) (omega arith) (omega arith) i;
+        versions = number-same (x + address + 2 * key) (y + address + 2 * key) (o .encoding .count) (omega arith) (omega arith) (omega arith) i;
+      }
+
+  -- and versions
+  module _ (x y : ℕ) (e : x + o .arena ≡ y + packedRecord o .arena) (l : o .arena ≤ y) (b : y + versionOf (o .encoding) ≤ end) where
+    -- the sequence
+    stored-seq : storedSeq w (packedRecord o) x ≡ storedSeq s o y
+    unfolding storedSeq packedRecord versionOf
+    stored-seq = ap (λ (n : ℕ). o .«min_seq» + n) (number-same x y (o .encoding .seq) e l (omega arith))
+
+    -- the value length, with its top bit
+    stored-value : storedValue w (packedRecord o) x ≡ storedValue s o y
+    unfolding storedValue packedRecord versionOf
+    stored-value = number-same (x + o .encoding .seq) (y + o .encoding .seq) (o .encoding .value) (omega arith) (omega arith) (omega arith)
+
+    -- the value offset
+    stored-offset : storedOffset w (packedRecord o) x ≡ storedOffset s o y
+    unfolding storedOffset packedRecord versionOf
+    stored-offset =
+        number-same (x + o .encoding .seq + o .encoding .value) (y + o .encoding .seq + o .encoding .value) (o .encoding .address)
+        (omega arith) (omega arith) (omega arith)
+
+    -- the checksum, in an encoding with checksums
+    stored-checksum : o .encoding .checksum ≡ true → storedChecksum w (packedRecord o) x ≡ storedChecksum s o y
+    unfolding storedChecksum packedRecord versionOf
+    stored-checksum c =
+        let f = if-true {A = ℕ} (o .encoding .checksum) 4 0 c in
+        number-same (x + o .encoding .seq + o .encoding .value + o .encoding .address) (y + o .encoding .seq + o .encoding .value + o .encoding .address) 4
+        (omega arith) (omega arith) (omega arith)
+
+  -- ---- by index: w has what the section has
+
+  module _ (es : List Entry) (a : Agrees t es) where
+    -- the key header at an address
+    record-same : (k : ℕ) → k < o .count
+        → keyHeaderAt w (o .encoding) (packedRecord o .arena + addressOf s o k) ≡ keyHeaderAt s (o .encoding) (o .arena + addressOf s o k)
+    record-same k l =
+        header-same (packedRecord o .arena + addressOf s o k) (o .arena + addressOf s o k) (omega arith) (omega arith) (a .keys k l .header-inside)
+
+    -- the addresses, up to that behind the last key
+    pub address-same : (k : ℕ) → k ≤ o .count → addressOf w (packedRecord o) k ≡ addressOf s o k
+    unfolding addressOf packedRecord
+    address-same zero l = refl
+    address-same (suc k) l =
+        ap (λ (n : ℕ). n + keyRecordLen (o .encoding) (keyHeaderAt w (o .encoding) (packedRecord o .arena + n))) (address-same k (omega arith))
+        ∙ ap (λ (h : KeyHeader). addressOf s o k + keyRecordLen (o .encoding) h) (record-same k l)
+
+    -- the key headers
+    pub key-header-same : (k : ℕ) → k < o .count → headerOfKey w (packedRecord o) k ≡ headerOfKey s o k
+    unfolding headerOfKey packedRecord
+    key-header-same k l =
+        ap (λ (n : ℕ). keyHeaderAt w (o .encoding) (packedRecord o .arena + n)) (address-same k (omega arith))
+        ∙ record-same k l
+
+    -- the numbers of versions
+    pub versions-same : (k : ℕ) → k < o .count → versionsOf w (packedRecord o) k ≡ versionsOf s o k
+    unfolding versionsOf
+    versions-same k l = ap (λ (h : KeyHeader). h .versions) (key-header-same k l)
+
+    -- the versions before a key
+    pub first-same : (k : ℕ) → k ≤ o .count → firstVersion w (packedRecord o) k ≡ firstVersion s o k
+    unfolding firstVersion
+    first-same zero l = refl
+    first-same (suc k) l = ap₂ (λ (x y : ℕ). x + y) (first-same k (omega arith)) (versions-same k l)
+
+    -- suffixes are as far from the arena's start
+    pub suffix-moved : (k : ℕ) → k < o .count → suffixPlace w (packedRecord o) k + o .arena ≡ suffixPlace s o k + packedRecord o .arena
+    unfolding suffixPlace packedRecord
+    suffix-moved k l = omega (arith, address-same k (omega arith))
+
+    -- and so are versions
+    pub version-moved : (k j : ℕ) → k < o .count → versionPlace w (packedRecord o) k j + o .arena ≡ versionPlace s o k j + packedRecord o .arena
+    unfolding versionPlace packedRecord
+    version-moved k j l =
+        let p = suffix-moved k l in
+        let q = ap (λ (h : KeyHeader). h .«suffix_len») (key-header-same k l) in
+        omega arith
+
+    -- a suffix lies behind the arena's start
+    suffix-behind : (k : ℕ) → o .arena ≤ suffixPlace s o k
+    unfolding suffixPlace
+    suffix-behind k = omega arith
+
+    -- and so does a version
+    version-behind : (k j : ℕ) → o .arena ≤ versionPlace s o k j
+    unfolding versionPlace
+    version-behind k j = let p = suffix-behind k in omega arith
+
+    -- the keys
+    pub key-same : (k : ℕ) → k < o .count → keyAt w (packedRecord o) k ≡ keyAt s o k
+    unfolding keyAt
+    key-same k l =
+        let m = anchor-le k in
+        let n : anchorIndex k < o .count = omega arith in
+        let e = key-header-same k l in
+        ap (λ (h : KeyHeader). take (h .shared) (drop (suffixPlace w (packedRecord o) (anchorIndex k)) w) ++ take (h .«suffix_len») (drop (suffixPlace w (packedRecord o) k) w)) e
+        ∙ ap₂ (λ (u v : List ℕ). u ++ v)
+        (part-same _ _ (headerOfKey s o k .shared) (suffix-moved (anchorIndex k) n) (suffix-behind (anchorIndex k)) (shared-inside t es a k l))
+        (part-same _ _ (headerOfKey s o k .«suffix_len») (suffix-moved k l) (suffix-behind k) (a .keys k l .suffix-inside))
+
+    -- what is stored of a version
+    module _ (k j : ℕ) (l : k < o .count) (b : j < versionsOf s o k) where
+      pub seq-same : versionSeq w (packedRecord o) k j ≡ versionSeq s o k j
+      unfolding versionSeq
+      seq-same = stored-seq _ _ (version-moved k j l) (version-behind k j) (version-inside t es a k j l b)
+
+      value-same : storedValue w (packedRecord o) (versionPlace w (packedRecord o) k j) ≡ storedValue s o (versionPlace s o k j)
+      value-same = stored-value _ _ (version-moved k j l) (version-behind k j) (version-inside t es a k j l b)
+
+      pub kind-same : versionKind w (packedRecord o) k j ≡ versionKind s o k j
+      unfolding versionKind kindIn packedRecord
+      kind-same = ap (kindIn o) value-same
+
+      pub length-same : versionLength w (packedRecord o) k j ≡ versionLength s o k j
+      unfolding versionLength lengthIn packedRecord
+      length-same = ap (lengthIn o) value-same
+
+      pub offset-same : versionOffset w (packedRecord o) k j ≡ versionOffset s o k j
+      unfolding versionOffset
+      offset-same = stored-offset _ _ (version-moved k j l) (version-behind k j) (version-inside t es a k j l b)
+
+      pub checksum-same : o .encoding .checksum ≡ true → versionChecksum w (packedRecord o) k j ≡ versionChecksum s o k j
+      unfolding versionChecksum
+      checksum-same = stored-checksum _ _ (version-moved k j l) (version-behind k j) (version-inside t es a k j l b)

@@ -1,0 +1,278 @@
+-- A lookup can count on the packed bytes of an admitted section.
+-- Assumes nothing.
+use mathlib.Core.Path.{_≡_, refl, sym, ap, _∙_, subst, subst⁻¹}
+use mathlib.Core.Bool.{Bool, true, false}
+use mathlib.Core.List.{List}
+use Prim.Native.Nat.{ℕ, _+_, _*_, _<_, _≤_, _^_}
+use native.Mathlib.Omega.{arith}
+use lib.Dec.{leb}
+use lib.ListN.{length}
+use borrow.Author.Tests.{leb-false, le-leb, lt-leb}
+use Rattle.num.specs.Choice.{if_then_else_}
+use Rattle.num.specs.Number.{Bytes, leAt}
+use Rattle.num.proofs.Choice.{if-true, if-false, false-true}
+use Rattle.num.proofs.Parts.{entry-inside}
+use Rattle.crc32.specs.V42.{crcOf}
+use Rattle.block.specs.Walk.{Entry}
+use Rattle.point.specs.Hash.{hashOf, bucketOf, isDirect, directSlot, slotOf}
+use Rattle.point.proofs.Slots.{bucket-lt, slot-direct, slot-lt}
+use Rattle.encoding.specs.Encoding.{headerLen, keyHeaderOf, versionOf}
+use Rattle.header.specs.declared.Opened.{Opened}
+use Rattle.header.specs.Header.{fitsPacked, packedRecord, arenaEnd}
+use Rattle.header.specs.Facts.{Header, plain}
+use Rattle.header.proofs.Bounds.{buckets-range, arena-end}
+use Rattle.arena.specs.declared.KeyHeader.{KeyHeader}
+use Rattle.arena.specs.Key.{pilotPlace, slotPlace}
+use Rattle.opening.specs.Walk.{Store, valueOf}
+use Rattle.opening.specs.Open.{storeOf}
+use Rattle.packing.specs.Packing.{pilotAt as plainPilot, packPilot, packedBytes}
+use Rattle.packing.proofs.Bytes.{packed-length, packed-end, packed-is-record, packed-pilot, packed-address, packed-part}
+use Rattle.agreement.specs.Keys.{addressOf, headerOfKey, versionsOf, suffixPlace, anchorIndex, keyAt, firstVersion, versionPlace, versionSeq, versionChecksum}
+use Rattle.agreement.specs.Agrees.{entryAt, SameVersion, Agrees}
+use Rattle.agreement.proofs.Laws as laws
+use Rattle.agreement.proofs.Indices.{anchor-le}
+use Rattle.admission.specs.Blocks.{storeEntries}
+use Rattle.admission.specs.Admits.{PilotsInside, PilotsPack, Admits}
+use Rattle.admission.proofs.Stored.{stored-entry, stored-seq}
+use Rattle.lookup.specs.Lookup.{unpacked, pilotLen, pilotAt, pilotOf, slotLen, slotAt}
+use Rattle.locating.proofs.Indexed.{Indexed}
+use Rattle.locating.proofs.Moved.{ArenaKept, address-same, key-header-same, versions-same, first-same, suffix-moved, version-moved, key-same, seq-same, kind-same, length-same, offset-same, checksum-same}
+
+-- ---- pilots and slots
+
+-- a pilot that names its slot has bit 31 again
+unpacked-direct : (q : ℕ) → directSlot q < 2 ^ 23 → isDirect q ≡ true → unpacked (packPilot q) ≡ directSlot q + 2 ^ 31
+unfolding packPilot unpacked
+unpacked-direct q b e =
+    let p = if-true {A = ℕ} (isDirect q) (2 ^ 23) 0 e in
+    let u = if-true {A = ℕ} (leb (2 ^ 23) (packPilot q)) (2 ^ 31) 0 (le-leb (2 ^ 23) (packPilot q) (omega arith)) in
+    omega arith
+
+-- another is as it was
+unpacked-position : (q : ℕ) → directSlot q < 2 ^ 23 → isDirect q ≡ false → unpacked (packPilot q) ≡ q
+unfolding packPilot unpacked directSlot isDirect
+unpacked-position q b e =
+    let l : q < 2 ^ 31 = leb-false (2 ^ 31) q e in
+    let p = if-false {A = ℕ} (isDirect q) (2 ^ 23) 0 e in
+    let u = if-false {A = ℕ} (leb (2 ^ 23) (packPilot q)) (2 ^ 31) 0 (lt-leb (2 ^ 23) (packPilot q) (omega arith)) in
+    omega arith
+
+-- the slot that it names
+slot-named : (hash d n : ℕ) → d < 2 ^ 23 → slotOf hash (d + 2 ^ 31) n ≡ d
+unfolding isDirect directSlot
+slot-named hash d n b = slot-direct hash (d + 2 ^ 31) n (le-leb (2 ^ 31) (d + 2 ^ 31) (omega arith)) ∙ omega arith
+
+-- a pilot packed and unpacked gives the same slot
+pub unpacked-slot : (hash q n : ℕ) → directSlot q < 2 ^ 23 → slotOf hash (unpacked (packPilot q)) n ≡ slotOf hash q n
+unpacked-slot hash q n b = go (isDirect q) refl
+  where
+    go : (t : Bool) → isDirect q ≡ t → slotOf hash (unpacked (packPilot q)) n ≡ slotOf hash q n
+    go true e = ap (λ (k : ℕ). slotOf hash k n) (unpacked-direct q b e) ∙ slot-named hash (directSlot q) n b ∙ sym (slot-direct hash q n e)
+    go false e = ap (λ (k : ℕ). slotOf hash k n) (unpacked-position q b e)
+
+module _ (s : List ℕ) (o : Opened) (h : Header s o) where
+  -- a bucket is one of those of the record
+  bucket-below : (hash : ℕ) → bucketOf hash (o .buckets) < o .buckets
+  bucket-below hash = let r = buckets-range o (h .dimensions) in bucket-lt hash (o .buckets) (omega arith)
+
+  -- the three bytes of a pilot lie in the packed bytes
+  pilot-inside : (hash : ℕ) → pilotAt (packedRecord o) hash + pilotLen (packedRecord o) ≤ length (packedBytes s o)
+  unfolding pilotAt pilotLen packedRecord if_then_else_
+  pilot-inside hash = let l = bucket-below hash in omega (arith, packed-length s o h)
+
+  module _ (pack : PilotsPack s o) (direct : PilotsInside s o) where
+    -- the slot of a hash is that in the section
+    slot-same : (hash : ℕ) → slotOf hash (pilotOf (packedBytes s o) (packedRecord o) hash) (o .count) ≡ slotOf hash (leAt s (pilotPlace o hash) 4) (o .count)
+    unfolding pilotOf pilotAt pilotLen plainPilot packedRecord pilotPlace if_then_else_
+    slot-same hash =
+        let k = bucketOf hash (o .buckets) in
+        let l = bucket-below hash in
+        ap (λ (n : ℕ). slotOf hash (unpacked n) (o .count)) (packed-pilot s o h k l (pack .below k l))
+        ∙ unpacked-slot hash (leAt s (headerLen + 4 * k) 4) (o .count) (pack .below k l)
+
+    -- so it is one of n
+    slot-below : (hash : ℕ) → slotOf hash (pilotOf (packedBytes s o) (packedRecord o) hash) (o .count) < o .count
+    unfolding pilotPlace
+    slot-below hash =
+        let n = h .dimensions .some in
+        subst⁻¹ (λ (k : ℕ). k < o .count) (slot-same hash)
+        (slot-lt hash (leAt s (pilotPlace o hash) 4) (o .count) (omega arith) (direct .direct (bucketOf hash (o .buckets)) (bucket-below hash)))
+
+    -- it lies in the packed bytes
+    slot-inside : (hash : ℕ) → slotAt (packedBytes s o) (packedRecord o) hash + slotLen (packedRecord o) ≤ length (packedBytes s o)
+    unfolding slotAt slotLen pilotLen packedRecord if_then_else_
+    slot-inside hash =
+        let e = entry-inside (slotOf hash (pilotOf (packedBytes s o) (packedRecord o) hash) (o .count)) (o .count) (o .encoding .address) (slot-below hash) in
+        omega (arith, packed-length s o h)
+
+    -- and holds the same address
+    slot-holds : (hash : ℕ) → leAt (packedBytes s o) (slotAt (packedBytes s o) (packedRecord o) hash) (o .encoding .address) ≡ leAt s (slotPlace s o hash) (o .encoding .address)
+    unfolding slotAt slotLen pilotLen packedRecord slotPlace if_then_else_
+    slot-holds hash =
+        packed-address s o h (slotOf hash (pilotOf (packedBytes s o) (packedRecord o) hash) (o .count)) (slot-below hash)
+        ∙ ap (λ (i : ℕ). leAt s (headerLen + 4 * o .buckets + i * (o .encoding .address + 2)) (o .encoding .address)) (slot-same hash)
+
+  -- what lies in the arena lies in the packed bytes
+  place-inside : (x y n : ℕ) → x + o .arena ≡ y + packedRecord o .arena → y + n ≤ arenaEnd s o → x + n ≤ length (packedBytes s o)
+  place-inside x y n e b = let a = arena-end s o (plain h) in omega (arith, packed-end s o h)
+
+-- ---- keys and versions, of a store whose arena is kept in w
+
+module _ (t : Store) (w : List ℕ) (kept : ArenaKept t w) (es : List Entry) (a : Agrees t es) where
+  open Store t using (section as s, backing as «data», opened as o, end)
+
+  -- a version of a key in w is one in the section
+  version-below : (k j : ℕ) → k < o .count → j < versionsOf w (packedRecord o) k → j < versionsOf s o k
+  version-below k j l b = omega (arith, versions-same t w kept es a k l)
+
+  -- an address names one key
+  address-names : (k m : ℕ) → k < o .count → m < o .count → addressOf w (packedRecord o) k ≡ addressOf w (packedRecord o) m → k ≡ m
+  address-names k m l n e =
+      laws.address-names t es a k m l n (sym (address-same t w kept es a k (omega arith)) ∙ e ∙ address-same t w kept es a m (omega arith))
+
+  -- and so do a key's bytes
+  key-names : (k m : ℕ) → k < o .count → m < o .count → keyAt w (packedRecord o) k ≡ keyAt w (packedRecord o) m → k ≡ m
+  key-names k m l n e = laws.key-names t es a k m l n (sym (key-same t w kept es a k l) ∙ e ∙ key-same t w kept es a m n)
+
+  -- the stored anchor is the address of the anchor's suffix
+  anchor-place : (k : ℕ) → k < o .count → packedRecord o .arena + headerOfKey w (packedRecord o) k .anchor ≡ suffixPlace w (packedRecord o) (anchorIndex k)
+  anchor-place k l =
+      let n = anchor-le k in
+      let x = laws.anchor-place t es a k l in
+      let y = suffix-moved t w kept es a (anchorIndex k) (omega arith) in
+      let z = ap (λ (r : KeyHeader). r .anchor) (key-header-same t w kept es a k l) in
+      omega arith
+
+  -- the versions are the records
+  same-version : (k j : ℕ) → k < o .count → j < versionsOf w (packedRecord o) k
+      → SameVersion w (packedRecord o) k j (entryAt es (firstVersion w (packedRecord o) k + j))
+  same-version k j l b =
+      let i = version-below k j l b in
+      let v = a .versions k j l i in
+      subst⁻¹ (λ (n : ℕ). SameVersion w (packedRecord o) k j (entryAt es (n + j))) (first-same t w kept es a k (omega arith))
+      (record {
+        key = v .key ∙ sym (key-same t w kept es a k l);
+        seq = v .seq ∙ sym (seq-same t w kept es a k j l i);
+        kind = v .kind ∙ sym (kind-same t w kept es a k j l i);
+        size = v .size ∙ sym (length-same t w kept es a k j l i);
+        place = v .place ∙ sym (offset-same t w kept es a k j l i);
+      })
+
+  -- every version is a record
+  version-listed : (k j : ℕ) → k < o .count → j < versionsOf w (packedRecord o) k → firstVersion w (packedRecord o) k + j < length es
+  version-listed k j l b =
+      let n = laws.version-listed t es a k j l (version-below k j l b) in
+      omega (arith, first-same t w kept es a k (omega arith))
+
+  -- and every record is a version
+  record-version : (r : ℕ) → r < length es
+      → (k : ℕ) × (j : ℕ) × (k < o .count) × (j < versionsOf w (packedRecord o) k) × (r ≡ firstVersion w (packedRecord o) k + j)
+  record-version r l =
+      let v = laws.record-version t es a r l in
+      let b = v .key-below in
+      let i = v .version-below in
+      let e = v .index in
+      let f = first-same t w kept es a (v .key) (omega arith) in
+      (v .key, v .version, b, omega (arith, versions-same t w kept es a (v .key) b), omega arith)
+
+  -- the sequences of a key fall
+  falling : (k i j : ℕ) → k < o .count → i < j → j < versionsOf w (packedRecord o) k → versionSeq w (packedRecord o) k j < versionSeq w (packedRecord o) k i
+  falling k i j l h b =
+      let m = version-below k j l b in
+      let x = laws.sequences-fall t es a k i j l h m in
+      let y = seq-same t w kept es a k i l (omega arith) in
+      let z = seq-same t w kept es a k j l m in
+      omega arith
+
+  -- the stored checksums are those of the values
+  checksums : o .encoding .checksum ≡ true → (k j : ℕ) → k < o .count → j < versionsOf w (packedRecord o) k
+      → versionChecksum w (packedRecord o) k j ≡ crcOf (valueOf «data» (entryAt es (firstVersion w (packedRecord o) k + j)))
+  checksums c k j l b =
+      let i = version-below k j l b in
+      checksum-same t w kept es a k j l i c
+      ∙ a .checksums c k j l i
+      ∙ ap (λ (n : ℕ). crcOf (valueOf «data» (entryAt es (n + j)))) (sym (first-same t w kept es a k (omega arith)))
+
+  -- a slot that holds the address in the section holds the key's address
+  slot-address : ((hash : ℕ) → leAt w (slotAt w (packedRecord o) hash) (o .encoding .address) ≡ leAt s (slotPlace s o hash) (o .encoding .address))
+      → (k : ℕ) → k < o .count
+      → leAt w (slotAt w (packedRecord o) (hashOf (keyAt w (packedRecord o) k) (o .seed))) (o .encoding .address) ≡ addressOf w (packedRecord o) k
+  slot-address holds k l =
+      ap (λ (key : List ℕ). leAt w (slotAt w (packedRecord o) (hashOf key (o .seed))) (o .encoding .address)) (key-same t w kept es a k l)
+      ∙ holds (hashOf (keyAt s o k) (o .seed))
+      ∙ a .slot-address k l
+      ∙ sym (address-same t w kept es a k (omega arith))
+
+  -- sequences of 64 bits
+  sums : ((r : ℕ) → r < length es → entryAt es r .seq < 2 ^ 64) → (k j : ℕ) → k < o .count → j < versionsOf w (packedRecord o) k
+      → versionSeq w (packedRecord o) k j < 2 ^ 64
+  sums small k j l b =
+      subst (λ (n : ℕ). n < 2 ^ 64) (same-version k j l b .seq) (small (firstVersion w (packedRecord o) k + j) (version-listed k j l b))
+
+  -- where all of the arena lies in w
+  module _ (inside : (x y n : ℕ) → x + o .arena ≡ y + packedRecord o .arena → y + n ≤ end → x + n ≤ length w) where
+    -- so do the key headers
+    header-inside : (k : ℕ) → k < o .count → packedRecord o .arena + addressOf w (packedRecord o) k + keyHeaderOf (o .encoding) ≤ length w
+    header-inside k l =
+        let e = address-same t w kept es a k (omega arith) in
+        inside (packedRecord o .arena + addressOf w (packedRecord o) k) (o .arena + addressOf s o k) (keyHeaderOf (o .encoding)) (omega arith)
+        (a .keys k l .header-inside)
+
+    -- what keys share with their anchors
+    shared-inside : (k : ℕ) → k < o .count → suffixPlace w (packedRecord o) (anchorIndex k) + headerOfKey w (packedRecord o) k .shared ≤ length w
+    shared-inside k l =
+        let n = anchor-le k in
+        rw (key-header-same t w kept es a k l)
+        (inside _ _ (headerOfKey s o k .shared) (suffix-moved t w kept es a (anchorIndex k) (omega arith)) (laws.shared-inside t es a k l))
+
+    -- their suffixes
+    suffix-inside : (k : ℕ) → k < o .count → suffixPlace w (packedRecord o) k + headerOfKey w (packedRecord o) k .«suffix_len» ≤ length w
+    suffix-inside k l =
+        rw (key-header-same t w kept es a k l)
+        (inside _ _ (headerOfKey s o k .«suffix_len») (suffix-moved t w kept es a k l) (a .keys k l .suffix-inside))
+
+    -- and their versions
+    version-inside : (k j : ℕ) → k < o .count → j < versionsOf w (packedRecord o) k
+        → versionPlace w (packedRecord o) k j + versionOf (o .encoding) ≤ length w
+    version-inside k j l b =
+        inside _ _ (versionOf (o .encoding)) (version-moved t w kept es a k j l) (laws.version-inside t es a k j l (version-below k j l b))
+
+-- the packed bytes keep the arena
+arena-kept : (s «data» : List ℕ) (scratch : ℕ) (o : Opened) → Header s o → ArenaKept (storeOf s «data» scratch o) (packedBytes s o)
+unfolding ArenaKept storeOf
+arena-kept s «data» scratch o h = packed-part s o h
+
+-- the packed bytes of an admitted section whose pilots pack
+pub packed-indexed : (s «data» blocks : List ℕ) (scratch : ℕ) (o : Opened) → Bytes «data» → Admits s «data» blocks scratch o → fitsPacked o ≡ true → PilotsPack s o
+    → Indexed (packedBytes s o) (packedRecord o) «data» (storeEntries «data» blocks)
+unfolding storeOf packedRecord
+packed-indexed s «data» blocks scratch o bytes m fits pack =
+    let t = storeOf s «data» scratch o in
+    let w = packedBytes s o in
+    let es = storeEntries «data» blocks in
+    let h = m .header in
+    let a = m .agrees in
+    let kept = arena-kept s «data» scratch o h in
+    let inside = place-inside s o h in
+    record {
+      is-record = packed-is-record s o h fits;
+      pilot-inside = pilot-inside s o h;
+      slot-below = slot-below s o h pack (m .pilots);
+      slot-inside = slot-inside s o h pack (m .pilots);
+      slot-address = slot-address t w kept es a (slot-holds s o h pack (m .pilots));
+      slot-fingerprint = λ e. false-true (sym e);
+      address-names = address-names t w kept es a;
+      key-names = key-names t w kept es a;
+      header-inside = header-inside t w kept es a inside;
+      anchor-place = anchor-place t w kept es a;
+      shared-inside = shared-inside t w kept es a inside;
+      suffix-inside = suffix-inside t w kept es a inside;
+      version-inside = version-inside t w kept es a inside;
+      versions = same-version t w kept es a;
+      version-listed = version-listed t w kept es a;
+      record-version = record-version t w kept es a;
+      falling = falling t w kept es a;
+      sums = sums t w kept es a (λ r l. stored-seq «data» blocks bytes (entryAt es r) (laws.index-member es r l));
+      values = λ r l. stored-entry «data» blocks (m .covers) (entryAt es r) (laws.index-member es r l);
+      checksums = checksums t w kept es a;
+    }

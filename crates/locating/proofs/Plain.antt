@@ -1,0 +1,131 @@
+-- An admitted section with its record is what a lookup counts on.
+-- Assumes nothing.
+use mathlib.Core.Path.{_≡_, ap, _∙_, subst}
+use mathlib.Core.Bool.{false}
+use mathlib.Core.List.{List}
+use Prim.Native.Nat.{ℕ, _+_, _*_, _^_, _<_, _≤_}
+use native.Mathlib.Omega.{arith}
+use lib.ListN.{length}
+use Rattle.num.specs.Number.{Bytes, leAt}
+use Rattle.num.proofs.Choice.{if-false}
+use Rattle.point.specs.Hash.{bucketOf, slotOf}
+use Rattle.point.proofs.Slots.{bucket-lt, slot-lt}
+use Rattle.encoding.specs.Encoding.{headerLen}
+use Rattle.header.specs.declared.Opened.{Opened}
+use Rattle.header.specs.Facts.{Header, plain}
+use Rattle.header.proofs.Headers.{header-plain, facts-record}
+use Rattle.header.proofs.Bounds.{buckets-range, pilot-inside, slot-inside, arena-end}
+use Rattle.arena.specs.Key.{pilotPlace, slotPlace}
+use Rattle.opening.specs.Open.{storeOf}
+use Rattle.agreement.specs.Keys.{versionsOf, firstVersion, versionSeq}
+use Rattle.agreement.specs.Agrees.{entryAt}
+use Rattle.agreement.proofs.Laws.{address-names, key-names, sequences-fall, anchor-place, shared-inside, version-inside, version-listed, record-version, index-member}
+use Rattle.admission.specs.Blocks.{storeEntries}
+use Rattle.admission.specs.Admits.{PilotsInside, Admits}
+use Rattle.admission.proofs.Stored.{stored-entry, stored-seq}
+use Rattle.lookup.specs.Lookup.{pilotLen, pilotAt, pilotOf, slotLen, slotAt}
+use Rattle.locating.proofs.Indexed.{Indexed}
+
+-- ---- where a plain record has a lookup read: where the opening read
+
+module _ (o : Opened) (p : o .packed ≡ false) where
+  pilot-four : pilotLen o ≡ 4
+  unfolding pilotLen
+  pilot-four = if-false _ _ _ p
+
+  slot-wide : slotLen o ≡ o .encoding .address + 2
+  unfolding slotLen
+  slot-wide = if-false _ _ _ p
+
+  pilot-place : (h : ℕ) → pilotAt o h ≡ pilotPlace o h
+  unfolding pilotAt pilotPlace
+  pilot-place h = ap (λ (n : ℕ). headerLen + n * bucketOf h (o .buckets)) pilot-four
+
+  pilot-number : (s : List ℕ) (h : ℕ) → pilotOf s o h ≡ leAt s (pilotPlace o h) 4
+  unfolding pilotOf
+  pilot-number s h = if-false _ _ _ p ∙ ap (λ (n : ℕ). leAt s n 4) (pilot-place h)
+
+  slot-place : (s : List ℕ) (h : ℕ) → slotAt s o h ≡ slotPlace s o h
+  unfolding slotAt slotPlace
+  slot-place s h = rw (pilot-four, slot-wide, pilot-number s h)
+
+module _ (s : List ℕ) (o : Opened) (h : Header s o) where
+  arena-inside : o .arena ≤ length s
+  arena-inside = let e = arena-end s o (plain h) in omega arith
+
+  bucket-below : (x : ℕ) → bucketOf x (o .buckets) < o .buckets
+  bucket-below x = bucket-lt x (o .buckets) (buckets-range o (h .dimensions) .0)
+
+  -- the pilot of a hash lies in the section
+  pilot-fits : (x : ℕ) → pilotAt o x + pilotLen o ≤ length s
+  unfolding pilotPlace
+  pilot-fits x =
+      let e = pilot-place o (header-plain s o h) x in
+      let f = pilot-four o (header-plain s o h) in
+      let i = pilot-inside s o h (bucketOf x (o .buckets)) (bucket-below x) in
+      let l = arena-inside in
+      omega arith
+
+  module _ (g : PilotsInside s o) where
+    -- its slot is one of n, as the opening and as the lookup find it
+    slot-named : (x : ℕ) → slotOf x (leAt s (pilotPlace o x) 4) (o .count) < o .count
+    unfolding pilotPlace
+    slot-named x = slot-lt x _ (o .count) (h .dimensions .some) (g .direct (bucketOf x (o .buckets)) (bucket-below x))
+
+    slot-found : (x : ℕ) → slotOf x (pilotOf s o x) (o .count) < o .count
+    slot-found x = rw (pilot-number o (header-plain s o h) s x) (slot-named x)
+
+    -- and lies in the section
+    slot-fits : (x : ℕ) → slotAt s o x + slotLen o ≤ length s
+    unfolding slotPlace
+    slot-fits x =
+        let e = slot-place o (header-plain s o h) s x in
+        let f = slot-wide o (header-plain s o h) in
+        let i = slot-inside s o h _ (slot-named x) in
+        let l = arena-inside in
+        omega arith
+
+-- ---- the store
+
+-- a version's sequence is that of a record of the blocks
+seq-below : (s «data» blocks : List ℕ) (scratch : ℕ) (o : Opened) → Bytes «data» → Admits s «data» blocks scratch o
+    → (k j : ℕ) → k < o .count → j < versionsOf s o k → versionSeq s o k j < 2 ^ 64
+unfolding storeOf
+seq-below s «data» blocks scratch o b a k j h l =
+    let es = storeEntries «data» blocks in
+    let r = firstVersion s o k + j in
+    let n = version-listed (storeOf s «data» scratch o) es (a .agrees) k j h l in
+    subst (λ (x : ℕ). x < 2 ^ 64) (a .agrees .versions k j h l .seq) (stored-seq «data» blocks b (entryAt es r) (index-member es r n))
+
+-- the records of the blocks are indexed
+pub plain-indexed : (s «data» blocks : List ℕ) (scratch : ℕ) (o : Opened) → Bytes «data» → Admits s «data» blocks scratch o
+    → Indexed s o «data» (storeEntries «data» blocks)
+unfolding storeOf
+plain-indexed s «data» blocks scratch o b a =
+    let t = storeOf s «data» scratch o in
+    let es = storeEntries «data» blocks in
+    let g = a .agrees in
+    let place = slot-place o (header-plain s o (a .header)) s in
+    let e = arena-end s o (plain (a .header)) in
+    record {
+      is-record = facts-record s o (plain (a .header));
+      pilot-inside = pilot-fits s o (a .header);
+      slot-below = slot-found s o (a .header) (a .pilots);
+      slot-inside = slot-fits s o (a .header) (a .pilots);
+      slot-address = λ k h. rw place (g .slot-address k h);
+      slot-fingerprint = λ _ k h. rw place (g .slot-fingerprint k h);
+      address-names = address-names t es g;
+      key-names = key-names t es g;
+      header-inside = λ k h. let i = g .keys k h .header-inside in omega arith;
+      anchor-place = anchor-place t es g;
+      shared-inside = λ k h. let i = shared-inside t es g k h in omega arith;
+      suffix-inside = λ k h. let i = g .keys k h .suffix-inside in omega arith;
+      version-inside = λ k j h l. let i = version-inside t es g k j h l in omega arith;
+      versions = g .versions;
+      version-listed = version-listed t es g;
+      record-version = λ r h. let v = record-version t es g r h in (v .key, v .version, v .key-below, v .version-below, v .index);
+      falling = sequences-fall t es g;
+      sums = seq-below s «data» blocks scratch o b a;
+      values = λ r h. stored-entry «data» blocks (a .covers) (entryAt es r) (index-member es r h);
+      checksums = g .checksums;
+    }
