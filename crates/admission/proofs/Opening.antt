@@ -1,18 +1,14 @@
 -- A plain opening accepts exactly what the written rules admit.
 -- Assumes nothing.
 use mathlib.Core.Path.{_≡_, refl, ap, _∙_, subst, subst⁻¹}
-use mathlib.Core.Logic.{_↔_}
-use mathlib.Core.Bool.{Bool, true, false}
+use mathlib.Core.Bool.{true}
 use mathlib.Core.List.{List, []}
-use Prim.Native.Nat.{ℕ, zero, suc, _+_, _*_, _<_}
-use native.Mathlib.Nat.{not-suc-le-zero}
+use Prim.Native.Nat.{ℕ, _+_, _*_, _<_}
 use native.Mathlib.Omega.{arith}
-use lib.Dec.{eqb}
 use lib.ListN.{length}
-use borrow.Author.Tests.{eqb-true, eqb-false, eq-eqb, ltb-true, lt-ltb}
-use Rattle.num.specs.Choice.{both}
+use borrow.Author.Tests.{eqb-true, eq-eqb, lt-ltb, not-false}
 use Rattle.num.specs.Number.{leAt}
-use Rattle.num.proofs.Choice.{both-true, where-asked, if-first, if-true}
+use Rattle.num.proofs.Choice.{both-true, second-either, if-first, if-true}
 use Rattle.num.proofs.Steps.{yes-each}
 use Rattle.sstable.specs.declared.Trailer.{Trailer}
 use Rattle.sstable.specs.declared.Trailer.the-variants.{Sound, UnknownType, ChecksumMismatch}
@@ -23,7 +19,6 @@ use Rattle.encoding.specs.Encoding.{headerLen}
 use Rattle.header.specs.declared.Opened.{Opened}
 use Rattle.header.specs.declared.HeaderRead.{HeaderRead}
 use Rattle.header.specs.declared.HeaderRead.the-variants.{Accepted, Refused}
-use Rattle.header.specs.Header.{headerOf}
 use Rattle.header.specs.Facts.{Header}
 use Rattle.header.proofs.Headers.{header-facts, facts-header}
 use Rattle.arena.specs.declared.Cursor.{Cursor}
@@ -34,7 +29,7 @@ use Rattle.agreement.specs.Entries.{Progress, progressOf}
 use Rattle.agreement.specs.Agrees.{Agrees, startOf}
 use Rattle.agreement.proofs.Walk.{accepted-exactly}
 use Rattle.admission.specs.Blocks.{Covers, storeEntries}
-use Rattle.admission.specs.Admits.{PilotsInside, Admits}
+use Rattle.admission.specs.Admits.{PilotsInside, Admits, OpensExactly}
 use Rattle.admission.proofs.Pairs.{pairs-exactly}
 
 refused-accepted : {A : Type 0} (n : ℕ) (o : Opened) → Refused n ≡ Accepted o → A
@@ -44,7 +39,7 @@ refused-accepted n o e = absurd (let z : _≡_ {A = ℕ} 0 1 = cc in omega arith
 yes-pilot : (s : List ℕ) (o : Opened) (k : ℕ)
     → (isDirect (leAt s (headerLen + 4 * k) 4) ≡ true → directSlot (leAt s (headerLen + 4 * k) 4) < o .count) → pilotInside s o k ≡ true
 unfolding pilotInside
-yes-pilot s o k h = where-asked (isDirect (leAt s (headerLen + 4 * k) 4)) _ (λ d. lt-ltb _ _ (h d))
+yes-pilot s o k h = second-either _ _ (λ d. lt-ltb _ _ (h (not-false _ d)))
 
 -- the state before the first pair
 firstState : Opened → State
@@ -145,7 +140,7 @@ asks-open s «data» blocks scratch o a =
     ap (contentsFor s «data» blocks scratch) (asks-checked s o (a .trailer) (a .header))
     ∙ asks-contents s «data» blocks scratch o (record { pilots = a .pilots; covers = a .covers; agrees = a .agrees })
 
--- a section is accepted beside data, a block list and a key scratch, with a record, exactly if they are admitted
-pub open-exactly : (s «data» blocks : List ℕ) (scratch : ℕ) (o : Opened) → (openOf s «data» blocks scratch ≡ Accepted o) ↔ Admits s «data» blocks scratch o
-unfolding openOf
+-- a section is accepted beside data, a block list and a key scratch, with a record, exactly if they are admitted (P2)
+pub open-exactly : OpensExactly
+unfolding OpensExactly openOf
 open-exactly s «data» blocks scratch o = (open-asks s «data» blocks scratch o (checkedHeaderOf s) refl, asks-open s «data» blocks scratch o)

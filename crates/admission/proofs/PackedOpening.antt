@@ -1,7 +1,6 @@
 -- A packed opening accepts exactly what the written rules admit, and gives the packed record and the packed bytes.
 -- Assumes nothing.
 use mathlib.Core.Path.{_≡_, refl, sym, ap, _∙_}
-use mathlib.Core.Logic.{_↔_}
 use mathlib.Core.Bool.{true}
 use mathlib.Core.List.{List}
 use Prim.Native.Nat.{ℕ, _^_, _<_}
@@ -15,7 +14,7 @@ use Rattle.header.specs.declared.HeaderRead.the-variants.{Accepted, Refused}
 use Rattle.header.specs.Header.{fitsPacked, packedRecord}
 use Rattle.opening.specs.Open.{contentsOf, checkedHeaderOf}
 use Rattle.packing.specs.Packing.{PackedOpening, packedAs, refused, pilotAt, pilotPacks, pilotsPack, packedBytes, packedFor, packOf, packFor, openPackedOf}
-use Rattle.admission.specs.Admits.{PilotsPack, AdmitsPacked}
+use Rattle.admission.specs.Admits.{PilotsPack, AdmitsPacked, PackedFrom, PacksExactly}
 use Rattle.admission.proofs.Opening.{contents-asks, asks-contents, checked-asks, asks-checked}
 
 refused-packed : {A : Type 0} (n : ℕ) (p : Opened) (bytes : List ℕ) → refused n ≡ packedAs p bytes → A
@@ -40,13 +39,6 @@ unfolding fitsPacked
 fits-pass o c f = true-both _ _ c (lt-ltb _ _ f)
 
 module _ (s «data» blocks : List ℕ) (scratch room : ℕ) where
-  -- the record that the header says is admitted, and its packed form is this one
-  pub record PackedFrom (p : Opened) (bytes : List ℕ) : Type 0 where
-    pub plain : Opened
-    pub admits : AdmitsPacked s «data» blocks scratch room plain
-    pub same-record : p ≡ packedRecord plain
-    pub same-bytes : bytes ≡ packedBytes s plain
-
   packed-asks : (o p : Opened) (bytes : List ℕ) (r : HeaderRead) → contentsOf s «data» blocks scratch o ≡ r → packedFor s o r ≡ packedAs p bytes
       → (contentsOf s «data» blocks scratch o ≡ Accepted o) × (p ≡ packedRecord o) × (bytes ≡ packedBytes s o)
   unfolding packedFor
@@ -55,7 +47,7 @@ module _ (s «data» blocks : List ℕ) (scratch room : ℕ) where
       let c = contents-asks s «data» blocks scratch o x q in
       (q ∙ ap (λ (y : Opened). Accepted y) (sym (c .1)), cc e, cc e)
 
-  pack-asks : (o p : Opened) (bytes : List ℕ) → checkedHeaderOf s ≡ Accepted o → packOf s «data» blocks scratch room o ≡ packedAs p bytes → PackedFrom p bytes
+  pack-asks : (o p : Opened) (bytes : List ℕ) → checkedHeaderOf s ≡ Accepted o → packOf s «data» blocks scratch room o ≡ packedAs p bytes → PackedFrom s «data» blocks scratch room p bytes
   unfolding packOf
   pack-asks o p bytes h e =
       let e₁ = if-first _ _ (refused 7) (packedAs p bytes) (λ d. refused-packed 7 p bytes d) e in
@@ -78,7 +70,7 @@ module _ (s «data» blocks : List ℕ) (scratch room : ℕ) where
         same-bytes = w .2;
       }
 
-  header-asks : (p : Opened) (bytes : List ℕ) (r : HeaderRead) → checkedHeaderOf s ≡ r → packFor s «data» blocks scratch room r ≡ packedAs p bytes → PackedFrom p bytes
+  header-asks : (p : Opened) (bytes : List ℕ) (r : HeaderRead) → checkedHeaderOf s ≡ r → packFor s «data» blocks scratch room r ≡ packedAs p bytes → PackedFrom s «data» blocks scratch room p bytes
   unfolding packFor
   header-asks p bytes (Refused n) q e = refused-packed n p bytes e
   header-asks p bytes (Accepted o) q e = pack-asks o p bytes q e
@@ -93,11 +85,13 @@ module _ (s «data» blocks : List ℕ) (scratch room : ℕ) where
       ∙ ap (packedFor s o)
       (asks-contents s «data» blocks scratch o (record { pilots = a .admits .pilots; covers = a .admits .covers; agrees = a .admits .agrees }))
 
-  -- a section is accepted packed, as a record and bytes, exactly if its header says a record that is admitted and whose packed form they are
-  pub open-packed-exactly : (p : Opened) (bytes : List ℕ) → (openPackedOf s «data» blocks scratch room ≡ packedAs p bytes) ↔ PackedFrom p bytes
-  unfolding openPackedOf
-  open-packed-exactly p bytes =
-      (
-        header-asks p bytes (checkedHeaderOf s) refl,
-        λ f. asks-packed (f .plain) (f .admits) ∙ sym (ap (λ (x : Opened). packedAs x bytes) (f .same-record) ∙ ap (packedAs (packedRecord (f .plain))) (f .same-bytes)),
-      )
+-- a section is accepted packed, as a record and bytes, exactly if its header says a record that is admitted and whose packed form they are (P2)
+pub open-packed-exactly : PacksExactly
+unfolding PacksExactly openPackedOf
+open-packed-exactly s «data» blocks scratch room p bytes =
+    (
+      header-asks s «data» blocks scratch room p bytes (checkedHeaderOf s) refl,
+      λ f.
+      asks-packed s «data» blocks scratch room (f .plain) (f .admits)
+      ∙ sym (ap (λ (x : Opened). packedAs x bytes) (f .same-record) ∙ ap (packedAs (packedRecord (f .plain))) (f .same-bytes)),
+    )

@@ -1,5 +1,6 @@
 -- What the openings accept, question by question, in plain terms (document 01, "Opening, question by question").
 use mathlib.Core.Path.{_≡_}
+use mathlib.Core.Logic.{_↔_}
 use mathlib.Core.Bool.{true}
 use mathlib.Core.List.{List}
 use Prim.Native.Nat.{ℕ, _+_, _*_, _^_, _<_, _≤_}
@@ -9,9 +10,11 @@ use Rattle.sstable.specs.Trailer.{SoundTrailer}
 use Rattle.point.specs.Hash.{isDirect, directSlot}
 use Rattle.encoding.specs.Encoding.{headerLen}
 use Rattle.header.specs.declared.Opened.{Opened}
+use Rattle.header.specs.declared.HeaderRead.the-variants.{Accepted}
+use Rattle.header.specs.Header.{packedRecord}
 use Rattle.header.specs.Facts.{Header}
-use Rattle.opening.specs.Open.{storeOf}
-use Rattle.packing.specs.Packing.{packedBytes}
+use Rattle.opening.specs.Open.{storeOf, openOf}
+use Rattle.packing.specs.Packing.{packedBytes, packedAs, openPackedOf}
 use Rattle.agreement.specs.Agrees.{Agrees}
 use Rattle.admission.specs.Blocks.{Covers, storeEntries}
 
@@ -48,3 +51,21 @@ pub record AdmitsPacked (s «data» blocks : List ℕ) (scratch room : ℕ) (o :
   pub pilots : PilotsPack s o
   -- question 9
   pub holds : length (packedBytes s o) ≤ room
+
+-- a record and bytes are the packed form of a section that is admitted packed
+pub record PackedFrom (s «data» blocks : List ℕ) (scratch room : ℕ) (p : Opened) (bytes : List ℕ) : Type 0 where
+  -- the record that the section's header says
+  pub plain : Opened
+  pub admits : AdmitsPacked s «data» blocks scratch room plain
+  pub same-record : p ≡ packedRecord plain
+  pub same-bytes : bytes ≡ packedBytes s plain
+
+-- promise P2: a plain opening accepts exactly what is admitted, and then gives the record that the header says
+unfoldable pub OpensExactly : Type 0
+OpensExactly = (s «data» blocks : List ℕ) (scratch : ℕ) (o : Opened) → (openOf s «data» blocks scratch ≡ Accepted o) ↔ Admits s «data» blocks scratch o
+
+-- promise P2 of the packed form: a packed opening accepts exactly what is admitted packed, and then gives the packed record and bytes
+unfoldable pub PacksExactly : Type 0
+PacksExactly =
+    (s «data» blocks : List ℕ) (scratch room : ℕ) (p : Opened) (bytes : List ℕ)
+    → (openPackedOf s «data» blocks scratch room ≡ packedAs p bytes) ↔ PackedFrom s «data» blocks scratch room p bytes

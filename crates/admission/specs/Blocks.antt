@@ -46,7 +46,7 @@ pub record Covers («data» blocks : List ℕ) : Type 0 where
 unfoldable pub blockEntries : List ℕ → ℕ → ℕ → List Entry
 blockEntries «data» offset len = map (placed offset) (recordsOf (take len (drop offset «data»)) .entries)
 
--- the records of all blocks, one block behind the other: a store's versions
+-- the records of all blocks, one block behind the other
 unfoldable pub storeEntries : List ℕ → List ℕ → List Entry
 storeEntries «data» [] = []
 storeEntries «data» (offset ∷ []) = []

@@ -3,12 +3,12 @@
 -- Assumes nothing.
 use mathlib.Core.Path.{_≡_, refl, sym, ap, ap₂, _∙_, subst}
 use mathlib.Core.List.{List, _++_}
-use mathlib.Core.Bool.{Bool, true, false, not}
+use mathlib.Core.Bool.{Bool, true, not}
 use Prim.Native.Nat.{ℕ, zero, suc, _+_, _*_, _-_, _%_, _<_, _≤_}
 use native.Mathlib.Omega.{arith}
 use lib.Dec.{eqb}
 use lib.ListN.{take, drop}
-use borrow.Author.Tests.{eqb-true, eqb-false, eq-eqb, ne-eqb, leb-true, le-leb, ltb-true, lt-ltb}
+use borrow.Author.Tests.{eqb-true, eqb-false, eq-eqb, ne-eqb, leb-true, le-leb, ltb-true, lt-ltb, not-false}
 use Rattle.num.specs.Choice.{if_then_else_, both, either}
 use Rattle.num.specs.Number.{leAt}
 use Rattle.num.specs.Order.{lessThan}
@@ -67,15 +67,6 @@ pub record KeyAsked (s : List ℕ) (o : Opened) (end k : ℕ) (key : List ℕ) :
 
 -- ---- the key header
 
-unless-not : (a b : Bool) → either (not a) b ≡ true → a ≡ true → b ≡ true
-unfolding either
-unless-not a b e p = either-second (not a) b e (ap not p)
-
-not-unless : (a b : Bool) → (a ≡ true → b ≡ true) → either (not a) b ≡ true
-unfolding either
-not-unless true b h = h refl
-not-unless false b h = refl
-
 module _ (s : List ℕ) (o : Opened) (k : ℕ) (c : Cursor) (b : Before s o k c) where
   header-is : keyHeaderAt s (o .encoding) (c .pos) ≡ headerOfKey s o k
   unfolding headerOfKey
@@ -121,7 +112,7 @@ module _ (s : List ℕ) (o : Opened) (k : ℕ) (c : Cursor) (b : Before s o k c)
           omega arith,
           record {
             header-inside = omega arith;
-            anchor-whole = λ z. eqb-true _ _ (unless-not _ _ (b₁ .0) (eq-eqb (c .groups % group) 0 (omega arith)));
+            anchor-whole = λ z. eqb-true _ _ (either-second _ _ (b₁ .0) (ap not (eq-eqb (c .groups % group) 0 (omega arith))));
             anchor = eqb-true _ _ (b₂ .0) ∙ a;
             shared = omega arith;
             suffix-inside = omega arith;
@@ -153,7 +144,7 @@ module _ (s : List ℕ) (o : Opened) (k : ℕ) (c : Cursor) (b : Before s o k c)
         let r : headerOfKey s o k .shared ≤ anchorLenOf c (headerOfKey s o k) = omega arith in
         let x : c .pos + keyHeaderOf (o .encoding) + headerOfKey s o k .«suffix_len» ≤ end = omega arith in
         let v : c .pos + keyHeaderOf (o .encoding) + headerOfKey s o k .«suffix_len» + headerOfKey s o k .versions * versionOf (o .encoding) ≤ end = omega arith in
-        true-both _ _ (not-unless _ _ (λ e. let z = eqb-true (c .groups % group) 0 e in eq-eqb _ _ (f .anchor-whole (omega arith))))
+        true-both _ _ (second-either _ _ (λ e. let z = eqb-true (c .groups % group) 0 (not-false _ e) in eq-eqb _ _ (f .anchor-whole (omega arith))))
         (true-both _ _ (eq-eqb _ _ (f .anchor ∙ sym anchor-is))
         (true-both _ _ (le-leb _ _ r)
         (true-both _ _ (le-leb _ _ x)
@@ -355,7 +346,7 @@ module _ (s : List ℕ) (o : Opened) (k j : ℕ) (c : Cursor) (w : Within s o k 
         falls = λ i q.
             let n : e .seq < c .«last_seq» = ltb-true _ _ (either-second _ _ (b₂ .0) (w .first ∙ ne-eqb j 0 (λ z. omega arith))) in
             let l = w .last-seq i q in omega arith;
-        checksum = λ t. ap (storedChecksum s o) (sym (w .pos)) ∙ eqb-true _ _ (unless-not _ _ g t);
+        checksum = λ t. ap (storedChecksum s o) (sym (w .pos)) ∙ eqb-true _ _ (either-second _ _ g (ap not t));
       }
 
   version-agrees : (e : Entry) (value : List ℕ) → VersionAsked s o k j e value → versionAgrees s o c e ≡ true
@@ -379,7 +370,7 @@ module _ (s : List ℕ) (o : Opened) (k j : ℕ) (c : Cursor) (w : Within s o k 
 
   checksum-agrees : (e : Entry) (value : List ℕ) → VersionAsked s o k j e value → checksumAgrees s o c value ≡ true
   unfolding checksumAgrees versionChecksum
-  checksum-agrees e value a = not-unless _ _ (λ t. eq-eqb _ _ (ap (storedChecksum s o) (w .pos) ∙ a .checksum t))
+  checksum-agrees e value a = second-either _ _ (λ t. eq-eqb _ _ (ap (storedChecksum s o) (w .pos) ∙ a .checksum (not-false _ t)))
 
 -- ---- one visit
 

@@ -1,15 +1,14 @@
 -- Questions 16 and 20 in plain terms.
 -- Assumes nothing.
 use mathlib.Core.Path.{_≡_, refl, sym, ap, _∙_}
-use mathlib.Core.Logic.{_⊎_, inl, inr, ⊎-elim}
 use mathlib.Core.List.{List}
-use mathlib.Core.Bool.{true, not}
+use mathlib.Core.Bool.{true, false, not}
 use Prim.Native.Nat.{ℕ, _+_, _*_, _%_, _<_, _≤_}
 use native.Mathlib.Omega.{arith}
 use lib.Dec.{eqb, leb, ltb}
-use borrow.Author.Tests.{leb-true, le-leb, ltb-true, lt-ltb, eqb-true, eq-eqb}
+use borrow.Author.Tests.{leb-true, le-leb, ltb-true, lt-ltb, eqb-true, eq-eqb, not-false}
 use Rattle.num.specs.Choice.{both, either}
-use Rattle.num.proofs.Choice.{both-true, true-both, same-truth, either-true, true-either, asked-where, where-asked}
+use Rattle.num.proofs.Choice.{both-true, true-both, same-truth, either-second, second-either}
 use Rattle.num.specs.Order.{equalBytes}
 use Rattle.num.proofs.Order.{equalBytes-true, equalBytes-same}
 use Rattle.sstable.specs.Limits.{maxKeyBytes}
@@ -43,7 +42,7 @@ fitting o end c h t =
     let f = both-true _ _ (e .1) in
     let g = both-true _ _ (f .1) in
     record {
-      unshared = λ z. eqb-true _ _ (asked-where _ _ (a .0) (eq-eqb _ _ z));
+      unshared = λ z. eqb-true _ _ (either-second _ _ (a .0) (ap not (eq-eqb _ _ z)));
       anchor = eqb-true _ _ (b .0);
       shared = leb-true _ _ (d .0);
       suffix = leb-true _ _ (e .0);
@@ -55,7 +54,7 @@ fitting o end c h t =
 pub fits : (o : Opened) (end : ℕ) (c : Cursor) (h : KeyHeader) → Fitting o end c h → keyFits o end c h ≡ true
 unfolding keyFits atAnchor
 fits o end c h f =
-    true-both _ _ (where-asked _ _ (λ z. eq-eqb _ _ (f .unshared (eqb-true _ _ z))))
+    true-both _ _ (second-either _ _ (λ z. eq-eqb _ _ (f .unshared (eqb-true _ _ (not-false _ z)))))
     (true-both _ _ (eq-eqb _ _ (f .anchor))
     (true-both _ _ (le-leb _ _ (f .shared))
     (true-both _ _ (le-leb _ _ (f .suffix))
@@ -98,7 +97,7 @@ sameKind-same a b e = ap (sameKind a) (sym e) ∙ itself a
 -- what question 20 asks of a record at the cursor's version
 pub record Agreeing (s : List ℕ) (o : Opened) (c : Cursor) (e : Entry) : Type 0 where
   pub key : e .key ≡ storedKey s o c
-  pub falls : (c .first ≡ true) ⊎ (e .seq < c .«last_seq»)
+  pub falls : c .first ≡ false → e .seq < c .«last_seq»
   pub seq : storedSeq s o (c .pos) ≡ e .seq
   pub kind : kindIn o (storedValue s o (c .pos)) ≡ e .kind
   pub size : lengthIn o (storedValue s o (c .pos)) ≡ e .size
@@ -114,7 +113,7 @@ agreeing s o c e t =
     let g = both-true _ _ (f .1) in
     record {
       key = equalBytes-true _ _ (a .0);
-      falls = ⊎-elim (λ x. inl x) (λ x. inr (ltb-true _ _ x)) (either-true _ _ (b .0));
+      falls = λ f. ltb-true _ _ (either-second _ _ (b .0) f);
       seq = eqb-true _ _ (d .0);
       kind = sameKind-true _ _ (f .0);
       size = eqb-true _ _ (g .0);
@@ -125,7 +124,7 @@ pub agrees : (s : List ℕ) (o : Opened) (c : Cursor) (e : Entry) → Agreeing s
 unfolding versionAgrees
 agrees s o c e a =
     true-both _ _ (equalBytes-same _ _ (a .key))
-    (true-both _ _ (true-either _ _ (⊎-elim (λ x. inl x) (λ x. inr (lt-ltb _ _ x)) (a .falls)))
+    (true-both _ _ (second-either _ _ (λ f. lt-ltb _ _ (a .falls f)))
     (true-both _ _ (eq-eqb _ _ (a .seq))
     (true-both _ _ (sameKind-same _ _ (a .kind))
     (true-both _ _ (eq-eqb _ _ (a .size)) (eq-eqb _ _ (a .place))))))

@@ -119,6 +119,7 @@ keyFor s o end c previous key h =
     else Refused 17
     else Refused 16
 
+-- questions 16 to 19 of a record's key at the cursor
 unfoldable pub keyOf : List ℕ → Opened → ℕ → Cursor → List ℕ → List ℕ → Visited
 keyOf s o end c previous key =
     if keyInside o end c then keyFor s o end c previous key (keyHeaderAt s (o .encoding) (c .pos)) else Refused 16

@@ -34,9 +34,11 @@ storedValue s o pos = leAt s (pos + o .encoding .seq) (o .encoding .value)
 unfoldable pub kindIn : Opened → ℕ → Kind
 kindIn o value = if leb (tombstoneOf (o .encoding)) value then Tombstone else Put
 
+-- the value length without its top bit
 unfoldable pub lengthIn : Opened → ℕ → ℕ
 lengthIn o value = value % tombstoneOf (o .encoding)
 
+-- the value offset and the checksum behind it
 unfoldable pub storedOffset : List ℕ → Opened → ℕ → ℕ
 storedOffset s o pos = leAt s (pos + o .encoding .seq + o .encoding .value) (o .encoding .address)
 
@@ -49,7 +51,8 @@ sameKind Put Tombstone = false
 sameKind Tombstone Put = false
 sameKind Tombstone Tombstone = true
 
--- question 20: do key bytes, strictly falling sequences, kind, length and value offset agree? A sum of 2^64 or more never does.
+-- question 20: do key bytes, strictly falling sequences, kind, length and value offset agree? A sum of 2^64 or more never
+-- does, since a block's sequence has 8 bytes.
 unfoldable pub versionAgrees : List ℕ → Opened → Cursor → Entry → Bool
 versionAgrees s o c e =
     both (equalBytes (e .key) (storedKey s o c))

@@ -9,7 +9,7 @@ use lib.ListN.{length}
 use borrow.Author.Tests.{ltb-true, lt-ltb}
 use Rattle.num.specs.Choice.{if_then_else_, both, either, oneOf}
 use Rattle.num.specs.Number.{leAt}
-use Rattle.num.proofs.Choice.{both-true, true-both, false-true, if-yes, if-no}
+use Rattle.num.proofs.Choice.{both-true, true-both, false-true, if-true, if-false}
 use Rattle.encoding.specs.Encoding.{trailerLen, arenaStartOf}
 use Rattle.header.specs.declared.Opened.{Opened}
 use Rattle.header.specs.declared.HeaderRead.{HeaderRead}
@@ -231,8 +231,8 @@ record-facts s o e = go (o .packed) e
 -- and a record with the facts is answered yes
 pub facts-record : (s : List ℕ) (o : Opened) → IsRecord s o → recordOf s o ≡ true
 unfolding recordOf
-facts-record s o (plain h) = sym (if-no _ _ _ _ (header-plain s o h) (sym (yes-plain o (headerOf s) (facts-header s o h))))
-facts-record s o (packed h) = sym (if-yes _ _ _ _ (header-packed s o h) (sym (facts-packed s o h)))
+facts-record s o (plain h) = if-false _ _ _ (header-plain s o h) ∙ yes-plain o (headerOf s) (facts-header s o h)
+facts-record s o (packed h) = if-true _ _ _ (header-packed s o h) ∙ facts-packed s o h
 
 -- the record that a header gave passes question 24
 pub header-record : (s : List ℕ) (o : Opened) → headerOf s ≡ Accepted o → recordOf s o ≡ true

@@ -125,18 +125,20 @@ withScan o scan =
 -- questions 5 and 6 of a section with the scan flag: the first "no" gives its number
 unfoldable pub scannedOf : List ℕ → Opened → HeaderRead
 scannedOf s o =
-    if_then_else_ (scanPart s o)
-    (if_then_else_ (scanSettings s (scanPlaceOf s o) (o .count)) (Accepted (withScan o (scanPlaceOf s o))) (Refused 6))
-    (Refused 5)
+    if scanPart s o
+    then if scanSettings s (scanPlaceOf s o) (o .count)
+    then Accepted (withScan o (scanPlaceOf s o))
+    else Refused 6
+    else Refused 5
 
 -- questions 3 to 6: the first "no" gives its number, and without one the header gives the record
 unfoldable pub headerOf : List ℕ → HeaderRead
 headerOf s =
-    if_then_else_ (begins s)
-    (if_then_else_ (both (dimensions (fieldsOf s) (flagsOf s)) (arenaBelow s (fieldsOf s)))
-    (if_then_else_ (scanFlagged s) (scannedOf s (fieldsOf s)) (Accepted (fieldsOf s)))
-    (Refused 4))
-    (Refused 3)
+    if begins s
+    then if both (dimensions (fieldsOf s) (flagsOf s)) (arenaBelow s (fieldsOf s))
+    then if scanFlagged s then scannedOf s (fieldsOf s) else Accepted (fieldsOf s)
+    else Refused 4
+    else Refused 3
 
 -- the number of the question that a header fails, 0 if it fails none
 unfoldable pub headerNumber : HeaderRead → ℕ
@@ -202,11 +204,11 @@ packedOf s o =
 
 -- question 24: do these bytes give this record?
 unfoldable pub recordOf : List ℕ → Opened → Bool
-recordOf s o = if_then_else_ (o .packed) (packedOf s o) (plainFor (headerOf s) o)
+recordOf s o = if o .packed then packedOf s o else plainFor (headerOf s) o
 
--- where the arena ends: at the scan part, or else at the last five bytes
+-- where the arena ends (questions 16 and 22): at the scan part, or else at the last five bytes
 unfoldable pub arenaEnd : List ℕ → Opened → ℕ
-arenaEnd s o = if_then_else_ (eqb (o .scan) 0) (length s - trailerLen) (o .scan)
+arenaEnd s o = if eqb (o .scan) 0 then length s - trailerLen else o .scan
 
 -- names all definitions of this file: `unfolding header-defs` opens them
 unfoldable pub header-defs : ℕ

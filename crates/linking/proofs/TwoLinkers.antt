@@ -6,10 +6,10 @@ use Prim.Native.Nat.{ℕ}
 use Rattle.lookup.specs.declared.ValueLocator.{ValueLocator}
 use Rattle.lookup.specs.declared.Located.{Located}
 use Rattle.lookup.specs.declared.Located.the-variants.{Found, Missing, Refused}
-use Rattle.locating.specs.Store.{LinkerStore, Store, Version, Within}
-use Rattle.locating.specs.Looks.{lookup, NoneWithin, Greatest, Answers, Looks}
+use Rattle.locating.specs.Store.{LinkerStore, Version, Within}
+use Rattle.locating.specs.Looks.{lookup, NoneWithin, Greatest, Answers, Looks, LooksExactly}
 use Rattle.locating.proofs.Accepted.{lookup-exactly}
-use Rattle.linking.specs.Linkers.{SameVersions, Alike, LinkSame, none, same}
+use Rattle.linking.specs.Linkers.{SameVersions, Alike, LinkSame, none, same, TwoLinkers}
 
 -- answers that are one version
 answers-alike : (a b : LinkerStore) (v : Version) (l m : ValueLocator) → Answers a v l → Answers b v m → Alike a b l m
@@ -50,9 +50,10 @@ looks-same a b key limit p q s = go (lookup a key limit) refl
         let x = p .found l e in
         let g = greatest-there a b key limit s (x .0) (x .1) in
         let y = q .finds (x .0) g in
-        same (x .0) l (y .0) (x .1) g e (y .1) (answers-alike a b (x .0) l (y .0) (x .2) (y .2))
+        same (x .0) l (y .0) (x .1) g e (x .2) (y .1) (y .2) (answers-alike a b (x .0) l (y .0) (x .2) (y .2))
     go (Refused n) e = absurd (p .never n e)
 
 -- any two linkers, plain or packed, whose stores hold the same versions of a key within a limit link the same thing (P5)
-pub two-linkers : (a b : LinkerStore) → Store a → Store b → (key : List ℕ) (limit : ℕ) → SameVersions a b key limit → LinkSame a b key limit
+pub two-linkers : TwoLinkers
+unfolding TwoLinkers LooksExactly
 two-linkers a b p q key limit = looks-same a b key limit (lookup-exactly a p key limit) (lookup-exactly b q key limit)

@@ -6,8 +6,8 @@ use Prim.Native.Nat.{ℕ, _≤_}
 use Rattle.lookup.specs.declared.ValueLocator.{ValueLocator}
 use Rattle.lookup.specs.declared.Located.the-variants.{Found, Missing}
 use Rattle.lookup.specs.Value.{valuePart}
-use Rattle.locating.specs.Store.{LinkerStore, Version, Holds}
-use Rattle.locating.specs.Looks.{lookup, NoneWithin, Greatest}
+use Rattle.locating.specs.Store.{LinkerStore, Store, Version, Holds}
+use Rattle.locating.specs.Looks.{lookup, NoneWithin, Greatest, Answers}
 
 -- both stores hold the same versions of a key within a limit
 pub record SameVersions (a b : LinkerStore) (key : List ℕ) (limit : ℕ) : Type 0 where
@@ -22,8 +22,14 @@ pub record Alike (a b : LinkerStore) (l m : ValueLocator) : Type 0 where
   pub value : valuePart (a .backing) (l .offset) (l .len) ≡ valuePart (b .backing) (m .offset) (m .len)
   pub checksum : a .opened .encoding .checksum ≡ true → b .opened .encoding .checksum ≡ true → l .checksum ≡ m .checksum
 
--- both linkers find none, where neither store holds a version of the key within the limit, or both find the one of greatest sequence
+-- both linkers find none, where neither store holds a version of the key within the limit, or both find the one of greatest sequence,
+-- and their answers are alike
 pub data LinkSame (a b : LinkerStore) (key : List ℕ) (limit : ℕ) : Type 0 where
   none : NoneWithin a key limit → NoneWithin b key limit → lookup a key limit ≡ Missing → lookup b key limit ≡ Missing → LinkSame a b key limit
   same : (v : Version) (l m : ValueLocator) → Greatest a key limit v → Greatest b key limit v
-      → lookup a key limit ≡ Found l → lookup b key limit ≡ Found m → Alike a b l m → LinkSame a b key limit
+      → lookup a key limit ≡ Found l → Answers a v l → lookup b key limit ≡ Found m → Answers b v m
+      → Alike a b l m → LinkSame a b key limit
+
+-- promise P5: any two accepted stores, each plain or packed, that hold the same versions of a key within a limit link the same thing
+unfoldable pub TwoLinkers : Type 0
+TwoLinkers = (a b : LinkerStore) → Store a → Store b → (key : List ℕ) (limit : ℕ) → SameVersions a b key limit → LinkSame a b key limit

@@ -6,10 +6,11 @@ use Prim.Native.Nat.{ℕ}
 use Rattle.header.specs.declared.Opened.{Opened}
 use Rattle.packing.specs.Packing.{packedBytes}
 use Rattle.admission.specs.Blocks.{storeEntries}
+use Rattle.admission.specs.Admits.{OpensExactly, PacksExactly}
 use Rattle.admission.proofs.Opening.{open-exactly}
 use Rattle.admission.proofs.PackedOpening.{open-packed-exactly, fits-pass}
 use Rattle.locating.specs.Store.{LinkerStore, Accepted, plain, packed, Store}
-use Rattle.locating.specs.Looks.{Looks}
+use Rattle.locating.specs.Looks.{LooksExactly}
 use Rattle.locating.proofs.Indexed.{Indexed}
 use Rattle.locating.proofs.Plain.{plain-indexed}
 use Rattle.locating.proofs.Packed.{packed-indexed}
@@ -17,6 +18,7 @@ use Rattle.locating.proofs.Core.{indexed-looks}
 
 -- a lookup can count on an accepted store
 store-indexed : (t : LinkerStore) → Store t → Indexed (t .bytes) (t .opened) (t .backing) (storeEntries (t .backing) (t .blocks))
+unfolding OpensExactly PacksExactly
 store-indexed t st = go (st .accepted)
   where
     go : Accepted t → Indexed (t .bytes) (t .opened) (t .backing) (storeEntries (t .backing) (t .blocks))
@@ -30,6 +32,7 @@ store-indexed t st = go (st .accepted)
         (subst (λ (o : Opened). Indexed (packedBytes section (f .plain)) o (t .backing) (storeEntries (t .backing) (t .blocks))) (sym (f .same-record)) x)
 
 -- a lookup in an accepted store, plain or packed, is none exactly if no version of the key is within the limit, and otherwise the one of
--- greatest sequence
-pub lookup-exactly : (t : LinkerStore) → Store t → (key : List ℕ) (limit : ℕ) → Looks t key limit
+-- greatest sequence (P3)
+pub lookup-exactly : LooksExactly
+unfolding LooksExactly
 lookup-exactly t st = indexed-looks t (store-indexed t st)

@@ -18,7 +18,7 @@ use Rattle.lookup.specs.declared.Located.the-variants.{Found, Missing, Refused}
 use Rattle.lookup.specs.Lookup.{locatorAt, versionsFrom}
 use Rattle.locating.specs.Store.{LinkerStore, Version, Within}
 use Rattle.locating.specs.Looks.{lookup, NoneWithin, Greatest, Answers, Looks}
-use Rattle.locating.proofs.Counting.{search-below}
+use Rattle.num.proofs.Counting.{search-below}
 use Rattle.locating.proofs.Indexed.{Indexed}
 use Rattle.locating.proofs.Reading.{located-own, located-other}
 use Rattle.locating.proofs.Versions.{Answered, none, first, FirstWithin, answered, versionAt, version-key, version-seq, version-held, version-answers, listed, own-version, version-names}

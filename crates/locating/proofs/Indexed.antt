@@ -16,20 +16,20 @@ use Rattle.opening.specs.Walk.{valueOf}
 use Rattle.agreement.specs.Keys.{addressOf, headerOfKey, versionsOf, suffixPlace, anchorIndex, keyAt, firstVersion, versionPlace, versionSeq, versionChecksum}
 use Rattle.agreement.specs.Agrees.{entryAt, SameVersion}
 use Rattle.admission.proofs.Stored.{StoredEntry}
-use Rattle.lookup.specs.Lookup.{pilotLen, pilotAt, pilotOf, slotLen, slotAt}
+use Rattle.lookup.specs.Lookup.{pilotLen, pilotOffset, pilotOf, slotLen, slotOffset}
 
 -- a section, or packed bytes, with its record, beside data and the records of their blocks
 pub record Indexed (s : List ℕ) (o : Opened) («data» : List ℕ) (es : List Entry) : Type 0 where
   -- question 24
   pub is-record : recordOf s o ≡ true
   -- the pilot and the slot of a hash lie in the section, and the slot is one of n
-  pub pilot-inside : (h : ℕ) → pilotAt o h + pilotLen o ≤ length s
+  pub pilot-inside : (h : ℕ) → pilotOffset o h + pilotLen o ≤ length s
   pub slot-below : (h : ℕ) → slotOf h (pilotOf s o h) (o .count) < o .count
-  pub slot-inside : (h : ℕ) → slotAt s o h + slotLen o ≤ length s
+  pub slot-inside : (h : ℕ) → slotOffset s o h + slotLen o ≤ length s
   -- the slot of a key holds its address and, in the plain form, its fingerprint
-  pub slot-address : (k : ℕ) → k < o .count → leAt s (slotAt s o (hashOf (keyAt s o k) (o .seed))) (o .encoding .address) ≡ addressOf s o k
+  pub slot-address : (k : ℕ) → k < o .count → leAt s (slotOffset s o (hashOf (keyAt s o k) (o .seed))) (o .encoding .address) ≡ addressOf s o k
   pub slot-fingerprint : o .packed ≡ false → (k : ℕ) → k < o .count
-      → leAt s (slotAt s o (hashOf (keyAt s o k) (o .seed)) + o .encoding .address) 2 ≡ fingerprintOf (hashOf (keyAt s o k) (o .seed))
+      → leAt s (slotOffset s o (hashOf (keyAt s o k) (o .seed)) + o .encoding .address) 2 ≡ fingerprintOf (hashOf (keyAt s o k) (o .seed))
   -- an address, and a key's bytes, name one key
   pub address-names : (k m : ℕ) → k < o .count → m < o .count → addressOf s o k ≡ addressOf s o m → k ≡ m
   pub key-names : (k m : ℕ) → k < o .count → m < o .count → keyAt s o k ≡ keyAt s o m → k ≡ m

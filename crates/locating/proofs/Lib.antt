@@ -1,4 +1,3 @@
-pub mod Counting
 pub mod Indexed
 pub mod Plain
 pub mod Moved

@@ -14,7 +14,7 @@ use Rattle.header.specs.Header.{packedRecord}
 use Rattle.arena.specs.declared.KeyHeader.{KeyHeader}
 use Rattle.arena.specs.Key.{keyHeaderAt}
 use Rattle.arena.specs.Version.{storedSeq, storedValue, kindIn, lengthIn, storedOffset, storedChecksum}
-use Rattle.packing.proofs.Pieces.{leAt-parts}
+use Rattle.num.proofs.Pieces.{leAt-parts}
 use Rattle.opening.specs.Walk.{Store}
 use Rattle.agreement.specs.Keys.{keyRecordLen, addressOf, headerOfKey, versionsOf, suffixPlace, anchorIndex, keyAt, firstVersion, versionPlace, versionSeq, versionKind, versionLength, versionOffset, versionChecksum}
 use Rattle.agreement.specs.Agrees.{Agrees}

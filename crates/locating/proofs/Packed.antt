@@ -34,7 +34,7 @@ use Rattle.agreement.proofs.Indices.{anchor-le}
 use Rattle.admission.specs.Blocks.{storeEntries}
 use Rattle.admission.specs.Admits.{PilotsInside, PilotsPack, Admits}
 use Rattle.admission.proofs.Stored.{stored-entry, stored-seq}
-use Rattle.lookup.specs.Lookup.{unpacked, pilotLen, pilotAt, pilotOf, slotLen, slotAt}
+use Rattle.lookup.specs.Lookup.{unpacked, pilotLen, pilotOffset, pilotOf, slotLen, slotOffset}
 use Rattle.locating.proofs.Indexed.{Indexed}
 use Rattle.locating.proofs.Moved.{ArenaKept, address-same, key-header-same, versions-same, first-same, suffix-moved, version-moved, key-same, seq-same, kind-same, length-same, offset-same, checksum-same}
 
@@ -76,14 +76,14 @@ module _ (s : List ℕ) (o : Opened) (h : Header s o) where
   bucket-below hash = let r = buckets-range o (h .dimensions) in bucket-lt hash (o .buckets) (omega arith)
 
   -- the three bytes of a pilot lie in the packed bytes
-  pilot-inside : (hash : ℕ) → pilotAt (packedRecord o) hash + pilotLen (packedRecord o) ≤ length (packedBytes s o)
-  unfolding pilotAt pilotLen packedRecord if_then_else_
+  pilot-inside : (hash : ℕ) → pilotOffset (packedRecord o) hash + pilotLen (packedRecord o) ≤ length (packedBytes s o)
+  unfolding pilotOffset pilotLen packedRecord if_then_else_
   pilot-inside hash = let l = bucket-below hash in omega (arith, packed-length s o h)
 
   module _ (pack : PilotsPack s o) (direct : PilotsInside s o) where
     -- the slot of a hash is that in the section
     slot-same : (hash : ℕ) → slotOf hash (pilotOf (packedBytes s o) (packedRecord o) hash) (o .count) ≡ slotOf hash (leAt s (pilotPlace o hash) 4) (o .count)
-    unfolding pilotOf pilotAt pilotLen plainPilot packedRecord pilotPlace if_then_else_
+    unfolding pilotOf pilotOffset pilotLen plainPilot packedRecord pilotPlace if_then_else_
     slot-same hash =
         let k = bucketOf hash (o .buckets) in
         let l = bucket-below hash in
@@ -99,15 +99,15 @@ module _ (s : List ℕ) (o : Opened) (h : Header s o) where
         (slot-lt hash (leAt s (pilotPlace o hash) 4) (o .count) (omega arith) (direct .direct (bucketOf hash (o .buckets)) (bucket-below hash)))
 
     -- it lies in the packed bytes
-    slot-inside : (hash : ℕ) → slotAt (packedBytes s o) (packedRecord o) hash + slotLen (packedRecord o) ≤ length (packedBytes s o)
-    unfolding slotAt slotLen pilotLen packedRecord if_then_else_
+    slot-inside : (hash : ℕ) → slotOffset (packedBytes s o) (packedRecord o) hash + slotLen (packedRecord o) ≤ length (packedBytes s o)
+    unfolding slotOffset slotLen pilotLen packedRecord if_then_else_
     slot-inside hash =
         let e = entry-inside (slotOf hash (pilotOf (packedBytes s o) (packedRecord o) hash) (o .count)) (o .count) (o .encoding .address) (slot-below hash) in
         omega (arith, packed-length s o h)
 
     -- and holds the same address
-    slot-holds : (hash : ℕ) → leAt (packedBytes s o) (slotAt (packedBytes s o) (packedRecord o) hash) (o .encoding .address) ≡ leAt s (slotPlace s o hash) (o .encoding .address)
-    unfolding slotAt slotLen pilotLen packedRecord slotPlace if_then_else_
+    slot-holds : (hash : ℕ) → leAt (packedBytes s o) (slotOffset (packedBytes s o) (packedRecord o) hash) (o .encoding .address) ≡ leAt s (slotPlace s o hash) (o .encoding .address)
+    unfolding slotOffset slotLen pilotLen packedRecord slotPlace if_then_else_
     slot-holds hash =
         packed-address s o h (slotOf hash (pilotOf (packedBytes s o) (packedRecord o) hash) (o .count)) (slot-below hash)
         ∙ ap (λ (i : ℕ). leAt s (headerLen + 4 * o .buckets + i * (o .encoding .address + 2)) (o .encoding .address)) (slot-same hash)
@@ -194,11 +194,11 @@ module _ (t : Store) (w : List ℕ) (kept : ArenaKept t w) (es : List Entry) (a 
       ∙ ap (λ (n : ℕ). crcOf (valueOf «data» (entryAt es (n + j)))) (sym (first-same t w kept es a k (omega arith)))
 
   -- a slot that holds the address in the section holds the key's address
-  slot-address : ((hash : ℕ) → leAt w (slotAt w (packedRecord o) hash) (o .encoding .address) ≡ leAt s (slotPlace s o hash) (o .encoding .address))
+  slot-address : ((hash : ℕ) → leAt w (slotOffset w (packedRecord o) hash) (o .encoding .address) ≡ leAt s (slotPlace s o hash) (o .encoding .address))
       → (k : ℕ) → k < o .count
-      → leAt w (slotAt w (packedRecord o) (hashOf (keyAt w (packedRecord o) k) (o .seed))) (o .encoding .address) ≡ addressOf w (packedRecord o) k
+      → leAt w (slotOffset w (packedRecord o) (hashOf (keyAt w (packedRecord o) k) (o .seed))) (o .encoding .address) ≡ addressOf w (packedRecord o) k
   slot-address holds k l =
-      ap (λ (key : List ℕ). leAt w (slotAt w (packedRecord o) (hashOf key (o .seed))) (o .encoding .address)) (key-same t w kept es a k l)
+      ap (λ (key : List ℕ). leAt w (slotOffset w (packedRecord o) (hashOf key (o .seed))) (o .encoding .address)) (key-same t w kept es a k l)
       ∙ holds (hashOf (keyAt s o k) (o .seed))
       ∙ a .slot-address k l
       ∙ sym (address-same t w kept es a k (omega arith))

@@ -23,7 +23,7 @@ use Rattle.agreement.proofs.Laws.{address-names, key-names, sequences-fall, anc
 use Rattle.admission.specs.Blocks.{storeEntries}
 use Rattle.admission.specs.Admits.{PilotsInside, Admits}
 use Rattle.admission.proofs.Stored.{stored-entry, stored-seq}
-use Rattle.lookup.specs.Lookup.{pilotLen, pilotAt, pilotOf, slotLen, slotAt}
+use Rattle.lookup.specs.Lookup.{pilotLen, pilotOffset, pilotOf, slotLen, slotOffset}
 use Rattle.locating.proofs.Indexed.{Indexed}
 
 -- ---- where a plain record has a lookup read: where the opening read
@@ -37,16 +37,16 @@ module _ (o : Opened) (p : o .packed ≡ false) where
   unfolding slotLen
   slot-wide = if-false _ _ _ p
 
-  pilot-place : (h : ℕ) → pilotAt o h ≡ pilotPlace o h
-  unfolding pilotAt pilotPlace
+  pilot-place : (h : ℕ) → pilotOffset o h ≡ pilotPlace o h
+  unfolding pilotOffset pilotPlace
   pilot-place h = ap (λ (n : ℕ). headerLen + n * bucketOf h (o .buckets)) pilot-four
 
   pilot-number : (s : List ℕ) (h : ℕ) → pilotOf s o h ≡ leAt s (pilotPlace o h) 4
   unfolding pilotOf
   pilot-number s h = if-false _ _ _ p ∙ ap (λ (n : ℕ). leAt s n 4) (pilot-place h)
 
-  slot-place : (s : List ℕ) (h : ℕ) → slotAt s o h ≡ slotPlace s o h
-  unfolding slotAt slotPlace
+  slot-place : (s : List ℕ) (h : ℕ) → slotOffset s o h ≡ slotPlace s o h
+  unfolding slotOffset slotPlace
   slot-place s h = rw (pilot-four, slot-wide, pilot-number s h)
 
 module _ (s : List ℕ) (o : Opened) (h : Header s o) where
@@ -57,7 +57,7 @@ module _ (s : List ℕ) (o : Opened) (h : Header s o) where
   bucket-below x = bucket-lt x (o .buckets) (buckets-range o (h .dimensions) .0)
 
   -- the pilot of a hash lies in the section
-  pilot-fits : (x : ℕ) → pilotAt o x + pilotLen o ≤ length s
+  pilot-fits : (x : ℕ) → pilotOffset o x + pilotLen o ≤ length s
   unfolding pilotPlace
   pilot-fits x =
       let e = pilot-place o (header-plain s o h) x in
@@ -76,7 +76,7 @@ module _ (s : List ℕ) (o : Opened) (h : Header s o) where
     slot-found x = rw (pilot-number o (header-plain s o h) s x) (slot-named x)
 
     -- and lies in the section
-    slot-fits : (x : ℕ) → slotAt s o x + slotLen o ≤ length s
+    slot-fits : (x : ℕ) → slotOffset s o x + slotLen o ≤ length s
     unfolding slotPlace
     slot-fits x =
         let e = slot-place o (header-plain s o h) s x in

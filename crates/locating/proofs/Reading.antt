@@ -19,8 +19,8 @@ use Rattle.arena.specs.declared.KeyHeader.{KeyHeader}
 use Rattle.agreement.specs.Keys.{addressOf, headerOfKey, versionsOf, suffixPlace, keyAt, versionPlace}
 use Rattle.lookup.specs.declared.Located.{Located}
 use Rattle.lookup.specs.declared.Located.the-variants.{Missing, Refused}
-use Rattle.lookup.specs.Lookup.{readable, reading, pilotLen, pilotOf, slotLen, slotAt, versionsFrom, keyRecordOf, keyOfAddress, slotRead, hashRead, locateOf}
-use Rattle.locating.proofs.Counting.{all-taken}
+use Rattle.lookup.specs.Lookup.{readable, reading, pilotLen, pilotOf, slotLen, slotOffset, versionsFrom, keyRecordOf, keyRecordAt, slotRead, hashRead, locateOf}
+use Rattle.num.proofs.Counting.{all-taken}
 use Rattle.locating.proofs.Indexed.{Indexed}
 
 -- a read inside goes on
@@ -67,8 +67,8 @@ unfoldable slotIndex : List ℕ → Opened → ℕ → ℕ
 slotIndex s o h = slotOf h (pilotOf s o h) (o .count)
 
 -- slots of one index are one slot
-slot-place : (s : List ℕ) (o : Opened) (h g : ℕ) → slotIndex s o h ≡ slotIndex s o g → slotAt s o h ≡ slotAt s o g
-unfolding slotAt slotIndex
+slot-place : (s : List ℕ) (o : Opened) (h g : ℕ) → slotIndex s o h ≡ slotIndex s o g → slotOffset s o h ≡ slotOffset s o g
+unfolding slotOffset slotIndex
 slot-place s o h g e = ap (λ (i : ℕ). headerLen + pilotLen o * o .buckets + i * slotLen o) e
 
 -- the hash of key k
@@ -86,7 +86,7 @@ module _ (s : List ℕ) (o : Opened) («data» : List ℕ) (es : List Entry) (x 
       ∙ x .slot-address m l)
 
   -- the slot of a hash is that of a key
-  slot-taken : (h : ℕ) → (k : ℕ) × (k < o .count) × (slotAt s o h ≡ slotAt s o (keyHash s o k))
+  slot-taken : (h : ℕ) → (k : ℕ) × (k < o .count) × (slotOffset s o h ≡ slotOffset s o (keyHash s o k))
   unfolding slotIndex
   slot-taken h =
       let w = all-taken (o .count) (λ k. slotIndex s o (keyHash s o k)) (λ k _. x .slot-below (keyHash s o k)) slot-names (slotIndex s o h) (x .slot-below h) in
@@ -116,41 +116,41 @@ module _ (s : List ℕ) (o : Opened) («data» : List ℕ) (es : List Entry) (x 
 
   -- in its record a key of the arena meets its own versions
   key-own : (k : ℕ) → k < o .count → (limit : ℕ)
-      → keyOfAddress s o (keyAt s o k) limit (o .arena + addressOf s o k) ≡ versionsFrom (versionsOf s o k) s o (versionPlace s o k 0) limit
-  unfolding keyOfAddress headerOfKey versionsOf
+      → keyRecordAt s o (keyAt s o k) limit (o .arena + addressOf s o k) ≡ versionsFrom (versionsOf s o k) s o (versionPlace s o k 0) limit
+  unfolding keyRecordAt headerOfKey versionsOf
   key-own k h limit =
       reads s _ _ _ (x .header-inside k h)
       ∙ record-own s o (keyAt s o k) limit (o .arena + addressOf s o k) (headerOfKey s o k) (anchor-inside k h) (suffix-inside k h) (key-parts k h)
       ∙ ap (λ (p : ℕ). versionsFrom (versionsOf s o k) s o p limit) (first-place k)
 
   -- and any other key nothing
-  key-other : (k : ℕ) → k < o .count → (key : List ℕ) (limit : ℕ) → (key ≡ keyAt s o k → ⊥) → keyOfAddress s o key limit (o .arena + addressOf s o k) ≡ Missing
-  unfolding keyOfAddress headerOfKey
+  key-other : (k : ℕ) → k < o .count → (key : List ℕ) (limit : ℕ) → (key ≡ keyAt s o k → ⊥) → keyRecordAt s o key limit (o .arena + addressOf s o k) ≡ Missing
+  unfolding keyRecordAt headerOfKey
   key-other k h key limit n =
       reads s _ _ _ (x .header-inside k h)
       ∙ record-other s o key limit (o .arena + addressOf s o k) (headerOfKey s o k) (anchor-inside k h) (suffix-inside k h) (λ e. n (e ∙ sym (key-parts k h)))
 
   -- its slot leads a key of the arena to its record
   slot-own : (k : ℕ) → k < o .count → (limit : ℕ)
-      → slotRead s o (keyAt s o k) limit (keyHash s o k) (slotAt s o (keyHash s o k)) ≡ keyOfAddress s o (keyAt s o k) limit (o .arena + addressOf s o k)
+      → slotRead s o (keyAt s o k) limit (keyHash s o k) (slotOffset s o (keyHash s o k)) ≡ keyRecordAt s o (keyAt s o k) limit (o .arena + addressOf s o k)
   unfolding slotRead keyHash
   slot-own k h limit =
       reads s _ _ _ (x .slot-inside (keyHash s o k))
       ∙ if-true _ _ _ (second-either _ _ (λ p. eq-eqb _ _ (x .slot-fingerprint p k h)))
-      ∙ ap (λ (a : ℕ). keyOfAddress s o (keyAt s o k) limit (o .arena + a)) (x .slot-address k h)
+      ∙ ap (λ (a : ℕ). keyRecordAt s o (keyAt s o k) limit (o .arena + a)) (x .slot-address k h)
 
   -- and any other key to nothing
   slot-other : (k : ℕ) → k < o .count → (key : List ℕ) (limit g : ℕ) → (key ≡ keyAt s o k → ⊥)
-      → slotRead s o key limit g (slotAt s o (keyHash s o k)) ≡ Missing
+      → slotRead s o key limit g (slotOffset s o (keyHash s o k)) ≡ Missing
   unfolding slotRead keyHash
   slot-other k h key limit g n =
       reads s _ _ _ (x .slot-inside (keyHash s o k))
       ∙ if-case (λ (r : Located). r ≡ Missing) _ _ _
-      (λ _. ap (λ (a : ℕ). keyOfAddress s o key limit (o .arena + a)) (x .slot-address k h) ∙ key-other k h key limit n)
+      (λ _. ap (λ (a : ℕ). keyRecordAt s o key limit (o .arena + a)) (x .slot-address k h) ∙ key-other k h key limit n)
       (λ _. refl)
 
   -- every lookup comes to the slot of its hash
-  slot-met : (key : List ℕ) (limit : ℕ) → locateOf s o key limit ≡ slotRead s o key limit (hashOf key (o .seed)) (slotAt s o (hashOf key (o .seed)))
+  slot-met : (key : List ℕ) (limit : ℕ) → locateOf s o key limit ≡ slotRead s o key limit (hashOf key (o .seed)) (slotOffset s o (hashOf key (o .seed)))
   unfolding locateOf hashRead
   slot-met key limit = if-true _ _ _ (x .is-record) ∙ reads s _ _ _ (x .pilot-inside (hashOf key (o .seed)))
 

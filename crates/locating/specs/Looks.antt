@@ -11,7 +11,7 @@ use Rattle.lookup.specs.declared.Located.{Located}
 use Rattle.lookup.specs.declared.Located.the-variants.{Found, Missing, Refused}
 use Rattle.lookup.specs.Lookup.{locateOf}
 use Rattle.lookup.specs.Value.{valuePart, valueNumber}
-use Rattle.locating.specs.Store.{LinkerStore, Version, Within}
+use Rattle.locating.specs.Store.{LinkerStore, Store, Version, Within}
 
 -- the lookup of a key under a limit in a store
 unfoldable pub lookup : LinkerStore → List ℕ → ℕ → Located
@@ -47,3 +47,7 @@ pub record Looks (t : LinkerStore) (key : List ℕ) (limit : ℕ) : Type 0 where
   pub finds : (v : Version) → Greatest t key limit v → (l : ValueLocator) × (lookup t key limit ≡ Found l) × Answers t v l
   -- 24 and 25 do not occur
   pub never : (n : ℕ) → lookup t key limit ≡ Refused n → ⊥
+
+-- promise P3: so looks every lookup in an accepted store, plain or packed
+unfoldable pub LooksExactly : Type 0
+LooksExactly = (t : LinkerStore) → Store t → (key : List ℕ) (limit : ℕ) → Looks t key limit

@@ -1,5 +1,5 @@
 -- Lookup: questions 24 and 25, in the order of the Rust's reads (document 01, "Lookup").
-use Prim.Native.Nat.{ℕ, zero, suc, _+_, _*_, _%_, _^_}
+use Prim.Native.Nat.{ℕ, zero, suc, _+_, _*_, _-_, _%_, _^_}
 use mathlib.Core.List.{List}
 use mathlib.Core.Bool.{Bool, true, false}
 use lib.Dec.{eqb, leb, ltb}
@@ -18,7 +18,7 @@ use Rattle.lookup.specs.declared.ValueLocator.{ValueLocator}
 use Rattle.lookup.specs.declared.Located.{Located}
 use Rattle.lookup.specs.declared.Located.the-variants.{Found, Missing, Refused}
 
--- does a read of some bytes at a place stay inside the section? At its end a read of no bytes does.
+-- question 25 of a read: do some bytes at a place lie in the section? No bytes at its end do.
 unfoldable pub readable : List ℕ → ℕ → ℕ → Bool
 readable s place bytes = leb (place + bytes) (length s)
 
@@ -30,23 +30,25 @@ reading inside next = if inside then next else Refused 25
 unfoldable pub unpacked : ℕ → ℕ
 unpacked p = p % 2 ^ 23 + (if leb (2 ^ 23) p then 2 ^ 31 else 0)
 
+-- the bytes of a pilot
 unfoldable pub pilotLen : Opened → ℕ
 pilotLen o = if o .packed then 3 else 4
 
 -- the place of the pilot of a hash
-unfoldable pub pilotAt : Opened → ℕ → ℕ
-pilotAt o h = headerLen + pilotLen o * bucketOf h (o .buckets)
+unfoldable pub pilotOffset : Opened → ℕ → ℕ
+pilotOffset o h = headerLen + pilotLen o * bucketOf h (o .buckets)
 
+-- the pilot of a hash
 unfoldable pub pilotOf : List ℕ → Opened → ℕ → ℕ
-pilotOf s o h = if o .packed then unpacked (leAt s (pilotAt o h) 3) else leAt s (pilotAt o h) 4
+pilotOf s o h = if o .packed then unpacked (leAt s (pilotOffset o h) 3) else leAt s (pilotOffset o h) 4
 
 -- a slot is an address, and in the plain form the fingerprint behind it
 unfoldable pub slotLen : Opened → ℕ
 slotLen o = if o .packed then o .encoding .address else o .encoding .address + 2
 
 -- the place of the slot of a hash
-unfoldable pub slotAt : List ℕ → Opened → ℕ → ℕ
-slotAt s o h = headerLen + pilotLen o * o .buckets + slotOf h (pilotOf s o h) (o .count) * slotLen o
+unfoldable pub slotOffset : List ℕ → Opened → ℕ → ℕ
+slotOffset s o h = headerLen + pilotLen o * o .buckets + slotOf h (pilotOf s o h) (o .count) * slotLen o
 
 -- the version at a place
 unfoldable pub locatorAt : List ℕ → Opened → ℕ → ValueLocator
@@ -60,7 +62,7 @@ locatorAt s o pos =
     }
 
 -- some versions from a place on: the first whose sequence is not above the limit. The sequence is read, and its sum must be below
--- 2^64; the rest is read of the version answered alone.
+-- 2^64 (25); the rest is read of the version answered alone.
 unfoldable pub versionsFrom : ℕ → List ℕ → Opened → ℕ → ℕ → Located
 versionsFrom zero s o pos limit = Missing
 versionsFrom (suc count) s o pos limit =
@@ -72,7 +74,7 @@ versionsFrom (suc count) s o pos limit =
     | false ↦ Refused 25
     ]
 
--- the key record at a place: the anchor's part is read if the lengths agree, and the suffix if that part agrees
+-- a key record with its key header: the anchor's part is read if the lengths agree, and the suffix if that part agrees
 unfoldable pub keyRecordOf : List ℕ → Opened → List ℕ → ℕ → ℕ → KeyHeader → Located
 keyRecordOf s o key limit pos h =
     if eqb (length key) (h .shared + h .«suffix_len»)
@@ -85,8 +87,9 @@ keyRecordOf s o key limit pos h =
     else Missing)
     else Missing
 
-unfoldable pub keyOfAddress : List ℕ → Opened → List ℕ → ℕ → ℕ → Located
-keyOfAddress s o key limit pos =
+-- the key record at a place: its key header is read first
+unfoldable pub keyRecordAt : List ℕ → Opened → List ℕ → ℕ → ℕ → Located
+keyRecordAt s o key limit pos =
     reading (readable s pos (keyHeaderOf (o .encoding))) (keyRecordOf s o key limit pos (keyHeaderAt s (o .encoding) pos))
 
 -- the slot of a hash: in the plain form the fingerprint is asked first
@@ -94,17 +97,28 @@ unfoldable pub slotRead : List ℕ → Opened → List ℕ → ℕ → ℕ → �
 slotRead s o key limit h at =
     reading (readable s at (slotLen o))
     (if either (o .packed) (eqb (leAt s (at + o .encoding .address) 2) (fingerprintOf h))
-    then keyOfAddress s o key limit (o .arena + leAt s at (o .encoding .address))
+    then keyRecordAt s o key limit (o .arena + leAt s at (o .encoding .address))
     else Missing)
 
+-- the pilot of a hash, then its slot
 unfoldable pub hashRead : List ℕ → Opened → List ℕ → ℕ → ℕ → Located
-hashRead s o key limit h = reading (readable s (pilotAt o h) (pilotLen o)) (slotRead s o key limit h (slotAt s o h))
+hashRead s o key limit h = reading (readable s (pilotOffset o h) (pilotLen o)) (slotRead s o key limit h (slotOffset s o h))
 
 -- the lookup of a key under a limit: 24, then the reads
 unfoldable pub locateOf : List ℕ → Opened → List ℕ → ℕ → Located
 locateOf s o key limit = if recordOf s o then hashRead s o key limit (hashOf key (o .seed)) else Refused 24
 
+-- no limit: every sequence, a number of 64 bits, is within it
+abbrev pub noLimit : ℕ
+noLimit = 2 ^ 64 - 1
+
+-- the number of the question that a lookup fails, 0 where it gives a version or none
+unfoldable pub locatedNumber : Located → ℕ
+locatedNumber (Found l) = 0
+locatedNumber Missing = 0
+locatedNumber (Refused n) = n
+
 -- names all definitions of this file: `unfolding lookup-defs` opens them
 unfoldable pub lookup-defs : ℕ
-unfolding readable reading unpacked pilotLen pilotAt pilotOf slotLen slotAt locatorAt versionsFrom keyRecordOf keyOfAddress slotRead hashRead locateOf
+unfolding readable reading unpacked pilotLen pilotOffset pilotOf slotLen slotOffset locatorAt versionsFrom keyRecordOf keyRecordAt slotRead hashRead locateOf locatedNumber
 lookup-defs = 0

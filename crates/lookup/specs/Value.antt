@@ -14,5 +14,11 @@ valueInside «data» offset len = leb (offset + len) (length «data»)
 unfoldable pub valuePart : List ℕ → ℕ → ℕ → List ℕ
 valuePart «data» offset len = if valueInside «data» offset len then take len (drop offset «data») else []
 
+-- 0, or 26
 unfoldable pub valueNumber : List ℕ → ℕ → ℕ → ℕ
 valueNumber «data» offset len = if valueInside «data» offset len then 0 else 26
+
+-- names all definitions of this file: `unfolding value-defs` opens them
+unfoldable pub value-defs : ℕ
+unfolding valueInside valuePart valueNumber
+value-defs = 0

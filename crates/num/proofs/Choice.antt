@@ -1,13 +1,12 @@
 -- What a test that came out true or false says.
 -- Assumes nothing.
 use mathlib.Core.Path.{_≡_, refl, sym, ap, _∙_, subst⁻¹}
-use mathlib.Core.Logic.{_⊎_, inl, inr}
-use mathlib.Core.Bool.{Bool, true, false, not}
+use mathlib.Core.Bool.{Bool, true, false}
 use mathlib.Core.List.{List, [], _∷_}
 use Prim.Native.Nat.{ℕ}
 use native.Mathlib.Omega.{arith}
 use lib.Dec.{eqb}
-use borrow.Author.Tests.{eqb-true, ne-eqb}
+use borrow.Author.Tests.{eqb-true}
 use Rattle.num.specs.Choice.{if_then_else_, both, either, oneOf}
 
 pub false-true : {A : Type 0} → false ≡ true → A
@@ -21,19 +20,6 @@ both-true false b e = false-true e
 pub true-both : (a b : Bool) → a ≡ true → b ≡ true → both a b ≡ true
 unfolding both
 true-both a b p q = rw (p, q)
-
--- a number of a list that is not the first is one of the others
-pub oneOf-next : (x : ℕ) (xs : List ℕ) (n : ℕ) → (n ≡ x → ⊥) → oneOf (x ∷ xs) n ≡ true → oneOf xs n ≡ true
-unfolding oneOf either
-oneOf-next x xs n h e = ap (λ (b : Bool). either b (oneOf xs n)) (sym (ne-eqb n x h)) ∙ e
-
-pub oneOf-only : (x n : ℕ) → oneOf (x ∷ []) n ≡ true → n ≡ x
-unfolding oneOf either
-oneOf-only x n e = go (eqb n x) refl e
-  where
-    go : (b : Bool) → eqb n x ≡ b → either b false ≡ true → n ≡ x
-    go true p q = eqb-true n x p
-    go false p q = false-true q
 
 -- what holds of each arm under its test holds of the choice
 pub if-case : {A : Type 0} (P : A → Type 0) (t : Bool) (a b : A) → (t ≡ true → P a) → (t ≡ false → P b) → P (if_then_else_ t a b)
@@ -71,14 +57,6 @@ both-no a b e = sym (ap (λ (t : Bool). both t b) e)
 pub both-yes : (a b r : Bool) → a ≡ true → r ≡ b → r ≡ both a b
 unfolding both
 both-yes a b r e p = p ∙ sym (ap (λ (t : Bool). both t b) e)
-
-pub if-no : {A : Type 0} (t : Bool) (a b r : A) → t ≡ false → r ≡ b → r ≡ if_then_else_ t a b
-unfolding if_then_else_
-if-no t a b r e p = p ∙ sym (ap (λ (u : Bool). if_then_else_ u a b) e)
-
-pub if-yes : {A : Type 0} (t : Bool) (a b r : A) → t ≡ true → r ≡ a → r ≡ if_then_else_ t a b
-unfolding if_then_else_
-if-yes t a b r e p = p ∙ sym (ap (λ (u : Bool). if_then_else_ u a b) e)
 
 -- ---- choices and disjunctions that are decided
 
@@ -122,26 +100,3 @@ pub same-truth : (a b : Bool) → (a ≡ true → b ≡ true) → (b ≡ true �
 same-truth true b f g = sym (f refl)
 same-truth false true f g = g refl
 same-truth false false f g = refl
-
--- one of two tests
-pub either-true : (a b : Bool) → either a b ≡ true → (a ≡ true) ⊎ (b ≡ true)
-unfolding either
-either-true true b e = inl refl
-either-true false b e = inr e
-
-pub true-either : (a b : Bool) → (a ≡ true) ⊎ (b ≡ true) → either a b ≡ true
-unfolding either
-true-either true b h = refl
-true-either false b (inl e) = false-true e
-true-either false b (inr e) = e
-
--- a test that is asked where another is true
-pub asked-where : (a b : Bool) → either (not a) b ≡ true → a ≡ true → b ≡ true
-unfolding either
-asked-where true b e h = e
-asked-where false b e h = false-true h
-
-pub where-asked : (a b : Bool) → (a ≡ true → b ≡ true) → either (not a) b ≡ true
-unfolding either
-where-asked true b f = f refl
-where-asked false b f = refl

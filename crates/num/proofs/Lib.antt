@@ -1,9 +1,11 @@
 pub mod Choice
 pub mod Copy
+pub mod Counting
 pub mod Lists
 pub mod Number
 pub mod Order
 pub mod Parts
+pub mod Pieces
 pub mod Product
 pub mod Steps
 pub mod Xor

@@ -11,7 +11,7 @@ use lib.Pow.{pow-add}
 use lib.ListN.{length, getD, set, take, drop}
 use lib.Seq.{sets, drop-cons, getD-append-add, getD-drop}
 use Rattle.num.specs.Number.{Bytes, leAt, leBytes, isWidth}
-use Rattle.num.proofs.Choice.{oneOf-next, oneOf-only}
+use Rattle.num.proofs.Choice.{oneOf-case}
 
 pub length-leBytes : (w v : ℕ) → length (leBytes w v) ≡ w
 unfolding leBytes
@@ -150,7 +150,8 @@ leAt-halves s w at a b p q = ap₂ (λ (x y : ℕ). x + 2 ^ (8 * w) * y) p q ∙
 
 pub width-8 : (w : ℕ) → isWidth w ≡ true → (w ≡ 1 → ⊥) → (w ≡ 2 → ⊥) → (w ≡ 4 → ⊥) → w ≡ 8
 unfolding isWidth
-width-8 w e n₁ n₂ n₄ = oneOf-only 8 w (oneOf-next 4 _ w n₄ (oneOf-next 2 _ w n₂ (oneOf-next 1 _ w n₁ e)))
+width-8 w e n₁ n₂ n₄ =
+    oneOf-case (λ n. w ≡ n → w ≡ 8) _ w e ((λ q. absurd (n₁ q)), ((λ q. absurd (n₂ q)), ((λ q. absurd (n₄ q)), ((λ q. q), tt)))) refl
 
 -- equal numbers of a width were read from equal bytes
 pub leAt-bytes : (s t : List ℕ) → Bytes s → Bytes t → (w p q : ℕ) → leAt s p w ≡ leAt t q w → (k : ℕ) → k < w → getD s (p + k) 0 ≡ getD t (q + k) 0

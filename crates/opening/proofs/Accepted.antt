@@ -9,7 +9,7 @@ use native.Mathlib.Omega.{arith}
 use lib.Dec.{eqb}
 use lib.ListN.{length}
 use borrow.Author.Tests.{eqb-true, eqb-false, eq-eqb, ne-eqb}
-use Rattle.num.proofs.Choice.{if-yes, if-no}
+use Rattle.num.proofs.Choice.{if-true, if-false}
 use Rattle.crc32.specs.Table.{isTable}
 use Rattle.sstable.specs.declared.Trailer.{Trailer}
 use Rattle.sstable.specs.declared.Trailer.the-variants.{Sound, UnknownType, ChecksumMismatch}
@@ -109,13 +109,13 @@ module _ (s «data» blocks : List ℕ) (scratch : ℕ) (o : Opened) where
   -- question 10 fails
   pub contents-10 : pilotsInside s o ≡ false → Refused 10 ≡ contentsOf s «data» blocks scratch o
   unfolding contentsOf
-  contents-10 p = if-no _ _ _ _ p refl
+  contents-10 p = sym (if-false _ _ _ p)
 
   module _ (p : pilotsInside s o ≡ true) where
     -- the list is odd
     pub contents-odd : (length blocks % 2 ≡ 0 → ⊥) → Refused 11 ≡ contentsOf s «data» blocks scratch o
     unfolding contentsOf
-    contents-odd n = if-yes _ _ _ _ p (if-no _ _ _ _ (ne-eqb _ _ n) refl)
+    contents-odd n = sym (if-true _ _ _ p ∙ if-false _ _ _ (ne-eqb _ _ n))
 
     module _ (v : length blocks % 2 ≡ 0) (end : ℕ) (q : end ≡ arenaEnd s o) (w : Carried) (z : w ≡ record { «key_len» = 0; «previous_len» = 0; cursor = startAt o })
         (area left : List ℕ) (r : BlocksOpened) (e : endedFor (scratch / 2) left r ≡ pairsFrom (storeWith s «data» o end (scratch / 2)) blocks 0 (stateIn (scratch / 2) area w))
@@ -123,8 +123,8 @@ module _ (s «data» blocks : List ℕ) (scratch : ℕ) (o : Opened) where
         walked : endFor (storeOf s «data» scratch o) (endedFor (scratch / 2) left r) ≡ contentsOf s «data» blocks scratch o
         unfolding contentsOf storeOf stateIn
         walked =
-            if-yes _ _ _ _ p (if-yes _ _ _ _ (eq-eqb _ _ v)
-            (ap (endFor (storeOf s «data» scratch o)) (e ∙ (λ i. pairsFrom (storeWith s «data» o (q i) (scratch / 2)) blocks 0 (stateIn (scratch / 2) area (z i))))))
+            ap (endFor (storeOf s «data» scratch o)) (e ∙ (λ i. pairsFrom (storeWith s «data» o (q i) (scratch / 2)) blocks 0 (stateIn (scratch / 2) area (z i))))
+            ∙ sym (if-true _ _ _ p ∙ if-true _ _ _ (eq-eqb _ _ v))
 
         -- the walk refuses
         pub contents-refused : (n : ℕ) → r ≡ blocks-opened.Refused n → Refused n ≡ contentsOf s «data» blocks scratch o

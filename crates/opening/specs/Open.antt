@@ -65,6 +65,7 @@ endFor t (ended at st) =
     else Refused 23
     else Refused 22
 
+-- what the walk works on
 unfoldable pub storeOf : List ℕ → List ℕ → ℕ → Opened → Store
 storeOf s «data» scratch o =
     record { section = s; backing = «data»; opened = o; end = arenaEnd s o; half = scratch / 2 }

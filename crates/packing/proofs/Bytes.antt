@@ -20,7 +20,7 @@ use Rattle.header.specs.Facts.{Header, plain}
 use Rattle.header.proofs.Bounds.{slot-inside, arena-end}
 use Rattle.header.proofs.Packed.{packed-passes}
 use Rattle.packing.specs.Packing.{pilotAt, packPilot, pilotsFrom, slotAddress, addressesFrom, arenaBytes, packedBytes}
-use Rattle.packing.proofs.Pieces.{standing-behind, standing-here, parts-same, leAt-parts, leAt-written, pieces-length, piece-stands}
+use Rattle.num.proofs.Pieces.{standing-behind, standing-here, parts-same, leAt-parts, leAt-written, pieces-length, piece-stands}
 
 -- a pilot that packs has 24 bits
 pub packPilot-lt : (q : ℕ) → directSlot q < 2 ^ 23 → packPilot q < 2 ^ 24

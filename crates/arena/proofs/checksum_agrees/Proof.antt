@@ -1,10 +1,8 @@
 use mathlib.Core.Path.{sym, ap}
-use mathlib.Core.Logic.{inl}
 use mathlib.Core.Bool.{Bool, not}
 use native.Mathlib.Omega.{arith}
 use lib.Dec.{eqb}
 use borrow.Author.Tests.{not-true, not-false}
-use Rattle.num.proofs.Choice.{true-either}
 use Rattle.num.specs.Choice.{either}
 use Rattle.crc32.specs.V42.{crcOf}
 use Rattle.arena.specs.Version.{checksumAgrees, storedChecksum}
@@ -14,10 +12,10 @@ use Rattle.arena.proofs.checksum_agrees.Statement.{statement}
 use Rattle.arena.proofs.checksum_agrees.Tie as tie
 
 returns : tie.Need-returns
-unfolding checksumAgrees
+unfolding checksumAgrees either
 returns c =
     let args = c .before .before .before .before .before .args in
-    sym (true-either _ _ (inl (ap not (not-true (args .o .encoding .checksum) (c .if1 .taken)))))
+    rw (not-true (args .o .encoding .checksum) (c .if1 .taken))
 
 add-at : tie.Need-add-at
 add-at c =

@@ -1,6 +1,6 @@
-use mathlib.Core.Path.{refl, sym, _∙_}
+use mathlib.Core.Path.{sym, _∙_}
 use borrow.Author.Tests.{not-true, not-false}
-use Rattle.num.proofs.Choice.{if-no, if-yes}
+use Rattle.num.proofs.Choice.{if-true, if-false}
 use Rattle.opening.specs.Open.{endsTogether, prefixesCounted, endFor}
 use borrow.Author.Needs.{needs}
 use Rattle.opening.proofs.finish.Statement.{statement}
@@ -11,18 +11,22 @@ ends-together-requires c κs = search needs
 
 returns : tie.Need-returns
 unfolding endFor endsTogether prefixesCounted
-returns c = if-no _ _ _ _ (sym (c .before .ends-together .ensures) ∙ not-true _ (c .if1 .taken)) refl
+returns c = sym (if-false _ _ _ (sym (c .before .ends-together .ensures) ∙ not-true _ (c .if1 .taken)))
 
 prefixes-counted-requires : tie.Need-prefixes-counted-requires
 prefixes-counted-requires c κs = search needs
 
 returns-2 : tie.Need-returns-2
 unfolding endFor endsTogether prefixesCounted
-returns-2 c = if-yes _ _ _ _ (sym (c .before .before .before .ends-together .ensures) ∙ not-false _ (c .before .before .if1 .left)) (if-no _ _ _ _ (sym (c .before .prefixes-counted .ensures) ∙ not-true _ (c .if2 .taken)) refl)
+returns-2 c =
+    sym (if-true _ _ _ (sym (c .before .before .before .ends-together .ensures) ∙ not-false _ (c .before .before .if1 .left))
+    ∙ if-false _ _ _ (sym (c .before .prefixes-counted .ensures) ∙ not-true _ (c .if2 .taken)))
 
 returns-3 : tie.Need-returns-3
 unfolding endFor endsTogether prefixesCounted
-returns-3 c = if-yes _ _ _ _ (sym (c .before .before .before .ends-together .ensures) ∙ not-false _ (c .before .before .if1 .left)) (if-yes _ _ _ _ (sym (c .before .prefixes-counted .ensures) ∙ not-false _ (c .if2 .left)) refl)
+returns-3 c =
+    sym (if-true _ _ _ (sym (c .before .before .before .ends-together .ensures) ∙ not-false _ (c .before .before .if1 .left))
+    ∙ if-true _ _ _ (sym (c .before .prefixes-counted .ensures) ∙ not-false _ (c .if2 .left)))
 
 pub finish-spec : {M : Type 1} → statement M
 finish-spec =
