@@ -18,4 +18,21 @@ uint64_t kiban_open(const uint8_t *section, size_t section_len, const uint8_t *d
                     const uint64_t *blocks, size_t blocks_len, uint8_t *scratch, size_t scratch_len,
                     uint64_t record[16]);
 
+/* Opens a section as kiban_open does, and writes its packed form to the output, which needs no more room than the section
+ * has. On 0 the record is the packed one (packed 1, scan place 0), `*len` is the number of packed bytes, and the output
+ * keeps what it held behind them. */
+uint64_t kiban_open_packed(const uint8_t *section, size_t section_len, const uint8_t *data, size_t data_len,
+                           const uint64_t *blocks, size_t blocks_len, uint8_t *scratch, size_t scratch_len,
+                           uint8_t *output, size_t output_len, uint64_t record[16], uint64_t *len);
+
+/* Looks a key up in a section, or in a packed form, by the record that its opening wrote: the version of greatest sequence
+ * not above the limit. On 0 the answer holds: found (0 none, 1), kind (1 Put, 2 Tombstone), sequence, offset and length of
+ * the value in the data, and its CRC-32 (0 without checksums); six zeros for none. A record that these bytes do not give
+ * is 24. */
+uint64_t kiban_lookup(const uint8_t *section, size_t section_len, const uint64_t record[16],
+                      const uint8_t *key, size_t key_len, uint64_t limit, uint64_t answer[6]);
+
+/* Do an offset and a length lie in the data? 0, or 26. */
+uint64_t kiban_value(const uint8_t *data, size_t data_len, uint64_t offset, uint64_t length);
+
 #endif

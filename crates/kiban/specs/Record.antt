@@ -2,10 +2,12 @@
 use Prim.Native.Nat.{ℕ}
 use mathlib.Core.List.{List, [], _∷_}
 use mathlib.Core.Bool.{Bool}
+use lib.ListN.{length}
 use lib.Seq.{sets}
 use Rattle.header.specs.declared.Opened.{Opened}
 use Rattle.header.specs.declared.HeaderRead.{HeaderRead}
 use Rattle.header.specs.declared.HeaderRead.the-variants.{Accepted, Refused}
+use Rattle.packing.specs.Packing.{PackedOpening, packedAs, refused}
 use Rattle.num.specs.Choice.{if_then_else_}
 
 unfoldable pub flagNumber : Bool → ℕ
@@ -21,3 +23,13 @@ recordNumbers o =
 unfoldable pub recordWritten : HeaderRead → List ℕ → List ℕ
 recordWritten (Accepted o) before = sets before 0 (recordNumbers o)
 recordWritten (Refused n) before = before
+
+-- the record behind a packed opening: the sixteen numbers of the packed record, or what stood there
+unfoldable pub packedRecordWritten : PackedOpening → List ℕ → List ℕ
+packedRecordWritten (packedAs p bytes) before = sets before 0 (recordNumbers p)
+packedRecordWritten (refused n) before = before
+
+-- the length behind a packed opening: the number of packed bytes, or what stood there
+unfoldable pub packedLenWritten : PackedOpening → ℕ → ℕ
+packedLenWritten (packedAs p bytes) before = length bytes
+packedLenWritten (refused n) before = before

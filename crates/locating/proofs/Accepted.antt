@@ -1,19 +1,23 @@
 -- P3: what a lookup gives of an accepted store, plain or packed.
 -- Assumes nothing.
-use mathlib.Core.Path.{_≡_, sym, subst}
+use mathlib.Core.Path.{_≡_, sym, ap, _∙_, subst}
 use mathlib.Core.List.{List}
-use Prim.Native.Nat.{ℕ}
+use Prim.Native.Nat.{ℕ, _≤_}
+use native.Mathlib.Omega.{arith}
 use Rattle.header.specs.declared.Opened.{Opened}
 use Rattle.packing.specs.Packing.{packedBytes}
+use Rattle.agreement.specs.Keys.{versionSeq}
 use Rattle.admission.specs.Blocks.{storeEntries}
 use Rattle.admission.specs.Admits.{OpensExactly, PacksExactly}
 use Rattle.admission.proofs.Opening.{open-exactly}
 use Rattle.admission.proofs.PackedOpening.{open-packed-exactly, fits-pass}
-use Rattle.locating.specs.Store.{LinkerStore, Accepted, plain, packed, Store}
+use Rattle.lookup.specs.Lookup.{noLimit}
+use Rattle.locating.specs.Store.{LinkerStore, Accepted, plain, packed, Store, Version, Holds}
 use Rattle.locating.specs.Looks.{LooksExactly}
 use Rattle.locating.proofs.Indexed.{Indexed}
 use Rattle.locating.proofs.Plain.{plain-indexed}
 use Rattle.locating.proofs.Packed.{packed-indexed}
+use Rattle.locating.proofs.Versions.{version-seq, listed}
 use Rattle.locating.proofs.Core.{indexed-looks}
 
 -- a lookup can count on an accepted store
@@ -36,3 +40,13 @@ store-indexed t st = go (st .accepted)
 pub lookup-exactly : LooksExactly
 unfolding LooksExactly
 lookup-exactly t st = indexed-looks t (store-indexed t st)
+
+-- without a limit, every version of a store is within it
+pub no-limit : (t : LinkerStore) → Store t → (v : Version) → Holds t v → v .seq ≤ noLimit
+no-limit t st v h =
+    let x = store-indexed t st in
+    let y = listed t x v h in
+    let e : v .seq ≡ versionSeq (t .bytes) (t .opened) (y .key) (y .version) =
+        ap (λ (u : Version). u .seq) (sym (y .same)) ∙ version-seq t x (y .key) (y .version) (y .key-below) (y .version-below) in
+    let b = x .sums (y .key) (y .version) (y .key-below) (y .version-below) in
+    omega arith

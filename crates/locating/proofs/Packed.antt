@@ -26,7 +26,8 @@ use Rattle.arena.specs.Key.{pilotPlace, slotPlace}
 use Rattle.opening.specs.Walk.{Store, valueOf}
 use Rattle.opening.specs.Open.{storeOf}
 use Rattle.packing.specs.Packing.{pilotAt as plainPilot, packPilot, packedBytes}
-use Rattle.packing.proofs.Bytes.{packed-length, packed-end, packed-is-record, packed-pilot, packed-address, packed-part}
+use Rattle.packing.proofs.Lengths.{length-packed}
+use Rattle.packing.proofs.Bytes.{packed-end, packed-is-record, packed-pilot, packed-address, packed-part}
 use Rattle.agreement.specs.Keys.{addressOf, headerOfKey, versionsOf, suffixPlace, anchorIndex, keyAt, firstVersion, versionPlace, versionSeq, versionChecksum}
 use Rattle.agreement.specs.Agrees.{entryAt, SameVersion, Agrees}
 use Rattle.agreement.proofs.Laws as laws
@@ -78,7 +79,7 @@ module _ (s : List ℕ) (o : Opened) (h : Header s o) where
   -- the three bytes of a pilot lie in the packed bytes
   pilot-inside : (hash : ℕ) → pilotOffset (packedRecord o) hash + pilotLen (packedRecord o) ≤ length (packedBytes s o)
   unfolding pilotOffset pilotLen packedRecord if_then_else_
-  pilot-inside hash = let l = bucket-below hash in omega (arith, packed-length s o h)
+  pilot-inside hash = let l = bucket-below hash in omega (arith, length-packed s o h)
 
   module _ (pack : PilotsPack s o) (direct : PilotsInside s o) where
     -- the slot of a hash is that in the section
@@ -103,7 +104,7 @@ module _ (s : List ℕ) (o : Opened) (h : Header s o) where
     unfolding slotOffset slotLen pilotLen packedRecord if_then_else_
     slot-inside hash =
         let e = entry-inside (slotOf hash (pilotOf (packedBytes s o) (packedRecord o) hash) (o .count)) (o .count) (o .encoding .address) (slot-below hash) in
-        omega (arith, packed-length s o h)
+        omega (arith, length-packed s o h)
 
     -- and holds the same address
     slot-holds : (hash : ℕ) → leAt (packedBytes s o) (slotOffset (packedBytes s o) (packedRecord o) hash) (o .encoding .address) ≡ leAt s (slotPlace s o hash) (o .encoding .address)

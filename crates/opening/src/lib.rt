@@ -447,7 +447,7 @@ fn finish(section: &[u8], data: &[u8], o: Opened, end: usize, at: usize, c: Curs
     HeaderRead::Accepted(o)
 }
 
-fn arena_end(section: &[u8], o: Opened) -> usize
+pub fn arena_end(section: &[u8], o: Opened) -> usize
     requires { ⌜ 5 ≤ length (now section) ⌝ }
     ensures { λ r. ⌜ r ≡ arenaEnd (now (section .entry)) o ⌝ }
 {

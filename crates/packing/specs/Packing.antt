@@ -90,10 +90,10 @@ unfoldable pub packedRead : PackedOpening → PackedRead
 packedRead (packedAs p bytes) = packed-read.Packed p (length bytes)
 packedRead (refused n) = packed-read.Refused n
 
--- the number alone, 0 if there is none
-unfoldable pub packedNumber : PackedOpening → ℕ
-packedNumber (packedAs p bytes) = 0
-packedNumber (refused n) = n
+-- the number of the question that a packed opening fails, 0 if it fails none
+unfoldable pub packedNumber : PackedRead → ℕ
+packedNumber (packed-read.Packed p n) = 0
+packedNumber (packed-read.Refused n) = n
 
 -- the output behind a packed opening: nothing is written on a refusal, and places past the packed bytes keep what they held
 unfoldable pub packedWritten : PackedOpening → List ℕ → List ℕ
