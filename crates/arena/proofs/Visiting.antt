@@ -171,21 +171,3 @@ visit-inside s o end c previous e value d r i t = go (eqb (c .remaining) 0) refl
     go false n =
         let m = eqb-false _ _ n in
         version-inside s o end e value c d i (omega arith) (sym (visit-more s o end c previous e value m) ∙ t)
-
--- behind a key a visit that goes on meets the next one
-pub visit-next : (s : List ℕ) (o : Opened) (end : ℕ) (c : Cursor) (previous : List ℕ) (e : Entry) (value : List ℕ) (d : Cursor)
-    → c .remaining ≡ 0 → visitOf s o end c previous e value ≡ Went d → d .groups ≡ c .groups + 1
-unfolding entered advanced
-visit-next s o end c previous e value d z t =
-    let v = version-behind s o e value (keyOf s o end c previous (e .key)) d (sym (visit-first s o end c previous e value z) ∙ t) in
-    let k = key-entered s o end c previous (e .key) (v .0) (v .1) in
-    sym (ap (λ (x : Cursor). x .groups) (version-advanced s o e value (v .0) d (v .2) .2)) ∙ sym (ap (λ (x : Cursor). x .groups) (k .cursor))
-
--- in a key it meets the next version
-pub visit-same : (s : List ℕ) (o : Opened) (end : ℕ) (c : Cursor) (previous : List ℕ) (e : Entry) (value : List ℕ) (d : Cursor)
-    → (c .remaining ≡ 0 → ⊥) → visitOf s o end c previous e value ≡ Went d → (d .groups ≡ c .groups) × (d .remaining + 1 ≡ c .remaining)
-unfolding advanced
-visit-same s o end c previous e value d n t =
-    let a = version-advanced s o e value c d (sym (visit-more s o end c previous e value n) ∙ t) .2 in
-    let r : c .remaining - 1 ≡ d .remaining = ap (λ (x : Cursor). x .remaining) a in
-    (sym (ap (λ (x : Cursor). x .groups) a), omega arith)

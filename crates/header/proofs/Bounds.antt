@@ -43,14 +43,6 @@ module _ (s : List ℕ) (o : Opened) (h : Header s o) where
   unfolding arenaStartOf
   arena-start = h .start ∙ ap (λ (b : ℕ). headerLen + 4 * b + o .count * (o .encoding .address + 2)) (sym (h .dimensions .halved))
 
-  pub arena-lt : o .arena < 2 ^ 35
-  arena-lt =
-      let e = arena-start in
-      let f = h .dimensions .few in
-      let b = buckets-range o (h .dimensions) in
-      let l : o .count * (o .encoding .address + 2) ≤ 10 * 2 ^ 31 = address-case o (h .dimensions) (λ a. o .count * (a + 2) ≤ 10 * 2 ^ 31) (omega arith) (omega arith) in
-      omega arith
-
   -- the four bytes of a pilot lie before the arena
   pub pilot-inside : (bucket : ℕ) → bucket < o .buckets → headerLen + 4 * bucket + 4 ≤ o .arena
   pilot-inside bucket l = let e = arena-start in omega arith
@@ -59,15 +51,6 @@ module _ (s : List ℕ) (o : Opened) (h : Header s o) where
   pub slot-inside : (slot : ℕ) → slot < o .count → headerLen + 4 * o .buckets + slot * (o .encoding .address + 2) + o .encoding .address + 2 ≤ o .arena
   slot-inside slot l = omega (arith, arena-start, entry-inside slot (o .count) (o .encoding .address + 2) l)
 
-  -- one pilot and one slot at least
-  pub arena-least : headerLen + 4 + 6 ≤ o .arena
-  arena-least =
-      let b = buckets-range o (h .dimensions) in
-      let n = h .dimensions .some in
-      let e = arena-start in
-      let l : 6 ≤ o .count * (o .encoding .address + 2) = address-case o (h .dimensions) (λ a. 6 ≤ o .count * (a + 2)) (omega arith) (omega arith) in
-      omega arith
-
   -- a record with a scan place has a scan part
   pub scan-part : (o .scan ≡ 0 → ⊥) → Scan s o
   scan-part n = go (scanFlagged s) refl
@@ -75,10 +58,6 @@ module _ (s : List ℕ) (o : Opened) (h : Header s o) where
       go : (t : Bool) → scanFlagged s ≡ t → Scan s o
       go true t = h .scanned t
       go false t = absurd (n (h .unscanned t))
-
-  -- a scan place is not 0
-  pub scan-nonzero : scanFlagged s ≡ true → o .scan ≡ 0 → ⊥
-  scan-nonzero t e = let k = h .scanned t in omega (arith, k .after)
 
   -- the scan part, its length and the last five bytes end the section
   pub scan-end : Scan s o → o .scan + scanHeaderLen + o .count * o .encoding .address + 8 + trailerLen ≡ length s
@@ -97,21 +76,9 @@ module _ (s : List ℕ) (o : Opened) (h : PackedHeader s o) where
   unfolding packedRecord
   packed-unscanned = ap (λ (r : Opened). r .scan) (h .numbers)
 
-  pub packed-arena-lt : o .arena < 2 ^ 35
-  packed-arena-lt =
-      let e = packed-start in
-      let f = h .few in
-      let b = buckets-range o (h .dimensions) in
-      let l : o .count * o .encoding .address ≤ 8 * 2 ^ 31 = address-case o (h .dimensions) (λ a. o .count * a ≤ 8 * 2 ^ 31) (omega arith) (omega arith) in
-      omega arith
-
   -- the three bytes of a pilot lie before the arena
   pub packed-pilot-inside : (bucket : ℕ) → bucket < o .buckets → headerLen + 3 * bucket + 3 ≤ o .arena
   packed-pilot-inside bucket l = let e = packed-start in omega arith
-
-  -- the address of a slot lies before the arena
-  pub packed-slot-inside : (slot : ℕ) → slot < o .count → headerLen + 3 * o .buckets + slot * o .encoding .address + o .encoding .address ≤ o .arena
-  packed-slot-inside slot l = omega (arith, packed-start, entry-inside slot (o .count) (o .encoding .address) l)
 
 -- ---- of both
 
@@ -127,15 +94,6 @@ arena-end s o (packed h) =
     (λ _. (h .below, omega arith))
     (λ f. absurd (eqb-false (o .scan) 0 f (packed-unscanned s o h)))
 
--- the section has its 64 header bytes and its last five
-pub record-long : (s : List ℕ) (o : Opened) → IsRecord s o → headerLen + trailerLen ≤ length s
-record-long s o (plain h) = h .begins .long
-record-long s o (packed h) = h .begins .long
-
 pub record-dimensions : (s : List ℕ) (o : Opened) → IsRecord s o → Dimensions o
 record-dimensions s o (plain h) = h .dimensions
 record-dimensions s o (packed h) = h .dimensions
-
-pub record-arena-lt : (s : List ℕ) (o : Opened) → IsRecord s o → o .arena < 2 ^ 35
-record-arena-lt s o (plain h) = arena-lt s o h
-record-arena-lt s o (packed h) = packed-arena-lt s o h

@@ -105,8 +105,3 @@ module _ (s : List ℕ) (o : Opened) (h : Header s o) where
       parts-same (packedBytes s o) s (packedRecord o .arena) (o .arena) (arenaEnd s o - o .arena) a n
       (standing-here (packedBytes s o) (arenaBytes s o) (drop (length s - trailerLen) s) (packedRecord o .arena) (arenaEnd s o - o .arena) arena-stands (length-arena s o h))
       (omega arith)
-
-  -- a number in it
-  pub packed-number : (a n : ℕ) → o .arena + a + n ≤ arenaEnd s o
-      → leAt (packedBytes s o) (packedRecord o .arena + a) n ≡ leAt s (o .arena + a) n
-  packed-number a n b = leAt-parts (packedBytes s o) s (packedRecord o .arena + a) (o .arena + a) n (packed-part a n b)

@@ -67,7 +67,7 @@ abbrev pub tailPut : ℕ → List ℕ → List ℕ → List ℕ
 tailPut a xs ys = putMid a (length xs - a) xs ys
 
 -- a run of stores at the front of a tail is one at its place in the whole
-pub sets-tail : (xs ys w : List ℕ) (a : ℕ) → a + length w ≤ length xs → ys ≡ sets (tailOf a xs) 0 w → tailPut a xs ys ≡ sets xs a w
+sets-tail : (xs ys w : List ℕ) (a : ℕ) → a + length w ≤ length xs → ys ≡ sets (tailOf a xs) 0 w → tailPut a xs ys ≡ sets xs a w
 sets-tail xs ys w a h e =
     let d = drop a xs in
     let n : length d ≡ length xs - a = length-drop a xs in
