@@ -13,7 +13,7 @@ use Rattle.header.specs.declared.HeaderRead.{HeaderRead}
 use Rattle.header.specs.declared.HeaderRead.the-variants.{Accepted, Refused}
 use Rattle.header.specs.Header.{fitsPacked, packedRecord}
 use Rattle.opening.specs.Open.{contentsOf, checkedHeaderOf}
-use Rattle.packing.specs.Packing.{PackedOpening, packedAs, refused, pilotAt, pilotPacks, pilotsPack, packedBytes, packedFor, packOf, packFor, openPackedOf}
+use Rattle.packing.specs.Packing.{packedAs, refused, pilotAt, pilotPacks, pilotsPack, packedBytes, packedFor, packOf, packFor, openPackedOf}
 use Rattle.admission.specs.Admits.{PilotsPack, AdmitsPacked, PackedFrom, PacksExactly}
 use Rattle.admission.proofs.Opening.{contents-asks, asks-contents, checked-asks, asks-checked}
 
@@ -88,10 +88,9 @@ module _ (s «data» blocks : List ℕ) (scratch room : ℕ) where
 -- a section is accepted packed, as a record and bytes, exactly if its header says a record that is admitted and whose packed form they are (P2)
 pub open-packed-exactly : PacksExactly
 unfolding PacksExactly openPackedOf
-open-packed-exactly s «data» blocks scratch room p bytes =
-    (
-      header-asks s «data» blocks scratch room p bytes (checkedHeaderOf s) refl,
-      λ f.
+open-packed-exactly s «data» blocks scratch room p bytes = (
+  header-asks s «data» blocks scratch room p bytes (checkedHeaderOf s) refl,
+  λ f.
       asks-packed s «data» blocks scratch room (f .plain) (f .admits)
       ∙ sym (ap (λ (x : Opened). packedAs x bytes) (f .same-record) ∙ ap (packedAs (packedRecord (f .plain))) (f .same-bytes)),
-    )
+)

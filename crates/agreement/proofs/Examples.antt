@@ -2,7 +2,6 @@
 use mathlib.Core.Path.{_≡_, refl}
 use mathlib.Core.List.{List, [], _∷_}
 use mathlib.Core.Bool.{false}
-use Prim.Native.Nat.{ℕ}
 use Rattle.num.specs.Choice.{choice-defs}
 use Rattle.num.specs.Number.{leAt}
 use Rattle.num.specs.Order.{lessThan, commonPrefixLen, equalBytes}

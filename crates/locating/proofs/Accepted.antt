@@ -47,6 +47,6 @@ no-limit t st v h =
     let x = store-indexed t st in
     let y = listed t x v h in
     let e : v .seq ≡ versionSeq (t .bytes) (t .opened) (y .key) (y .version) =
-        ap (λ (u : Version). u .seq) (sym (y .same)) ∙ version-seq t x (y .key) (y .version) (y .key-below) (y .version-below) in
+    ap (λ (u : Version). u .seq) (sym (y .same)) ∙ version-seq t x (y .key) (y .version) (y .key-below) (y .version-below) in
     let b = x .sums (y .key) (y .version) (y .key-below) (y .version-below) in
     omega arith

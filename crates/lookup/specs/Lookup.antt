@@ -66,12 +66,12 @@ locatorAt s o pos =
 unfoldable pub versionsFrom : ℕ → List ℕ → Opened → ℕ → ℕ → Located
 versionsFrom zero s o pos limit = Missing
 versionsFrom (suc count) s o pos limit =
-    elim (both (readable s pos (o .encoding .seq)) (ltb (storedSeq s o pos) (2 ^ 64)))
-    [ true ↦ elim (leb (storedSeq s o pos) limit)
-    [ true ↦ reading (readable s pos (versionOf (o .encoding))) (Found (locatorAt s o pos))
-    | false ↦ versionsFrom count s o (pos + versionOf (o .encoding)) limit
-    ]
-    | false ↦ Refused 25
+    elim (both (readable s pos (o .encoding .seq)) (ltb (storedSeq s o pos) (2 ^ 64))) [
+      | true ↦ elim (leb (storedSeq s o pos) limit) [
+        | true ↦ reading (readable s pos (versionOf (o .encoding))) (Found (locatorAt s o pos))
+        | false ↦ versionsFrom count s o (pos + versionOf (o .encoding)) limit
+      ]
+      | false ↦ Refused 25
     ]
 
 -- a key record with its key header: the anchor's part is read if the lengths agree, and the suffix if that part agrees

@@ -1,4 +1,4 @@
-use mathlib.Core.Path.{ap, sym, _∙_}
+use mathlib.Core.Path.{sym, ap, _∙_}
 use Rattle.crc32.specs.V42.{finalizeOf}
 use Rattle.crc32.proofs.Division.{crc-update}
 use borrow.Author.Needs.{needs}

@@ -1,4 +1,4 @@
-use mathlib.Core.Path.{_≡_, refl, sym, ap, _∙_}
+use mathlib.Core.Path.{sym, ap, _∙_}
 use Rattle.opening.specs.Open.{headerFor, checkedHeaderOf}
 use borrow.Author.Needs.{needs}
 use Rattle.opening.proofs.checked_header.Statement.{statement}

@@ -1,4 +1,4 @@
-use mathlib.Core.Path.{_≡_, refl, sym, ap, _∙_}
+use mathlib.Core.Path.{refl, sym, ap, _∙_}
 use lib.ListN.{length}
 use Rattle.opening.specs.Open.{contentsFor, openOf}
 use Rattle.opening.proofs.Accepted.{checked-header}

@@ -1,4 +1,4 @@
-use mathlib.Core.Path.{sym, subst⁻¹, _∙_}
+use mathlib.Core.Path.{sym, _∙_, subst⁻¹}
 use borrow.Author.Tests.{not-true, not-false}
 use Rattle.num.specs.Choice.{if_then_else_}
 use Rattle.encoding.specs.Encoding.{Widths}
