@@ -56,10 +56,11 @@ struct Times {
     rust: Vec<f64>,
 }
 
-/// Each round measures every row once on both sides; the side that goes first alternates.
+/// Each round measures every row once on both sides; the side that goes first alternates. Before the first both
+/// sides must give the same number.
 pub fn measure(mut rows: Vec<Row>, rounds: usize) {
     let prepare = |row: &mut Row| {
-        row.ours.as_mut()(1);
+        assert_eq!((row.ours)(1), (row.rust)(1), "{}: both sides give the same", row.name);
         Times { batch: batch(&mut row.rust), ours: Vec::new(), rust: Vec::new() }
     };
     let mut all: Vec<Times> = rows.iter_mut().map(prepare).collect();

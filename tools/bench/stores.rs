@@ -1,7 +1,8 @@
-//! Opening, lookup and building on one store of 10,000 keys.
+//! Opening, lookup and building on stores of 20-byte keys with one version each and 32-byte values; lookup of 16-byte keys too,
+//! whose hash has no last odd bytes.
 use crate::blocks::{Entry, block};
 use crate::measure::{Row, Work, repeated, row};
-use crate::ours::{self, Offered, Scratch};
+use crate::ours::{self, Offered, Record, Scratch};
 use crate::rng::Rng;
 use oracle::compact::{Index, open, open_packed, open_packed_shared, open_shared};
 use oracle_stable::point::Builder;
@@ -9,11 +10,16 @@ use std::hint::black_box;
 use std::rc::Rc;
 use std::sync::Arc;
 
-const KEYS: usize = 10_000;
-const ASKED: usize = 1_000;
+/// A store whose parts stay in the nearest caches, and one whose parts do not.
+const SIZES: [usize; 2] = [1_000, 100_000];
+const BUILT: usize = 10_000;
+const KEY: usize = 20;
+const WHOLE_KEY: usize = 16;
+const VALUE: usize = 32;
 const PER_BLOCK: usize = 50;
+/// No sequence is above it.
+const LIMIT: u64 = 0xffff;
 
-/// 20-byte keys with one version each and 40-byte values, in blocks of 50 entries.
 struct Store {
     entries: Vec<Entry>,
     offsets: Vec<u64>,
@@ -23,10 +29,10 @@ struct Store {
 }
 
 impl Store {
-    fn new(rng: &mut Rng) -> Rc<Self> {
-        let mut keys: Vec<Vec<u8>> = (0..KEYS).map(|_| rng.bytes(20)).collect();
+    fn new(rng: &mut Rng, count: usize, key: usize) -> Rc<Self> {
+        let mut keys: Vec<Vec<u8>> = (0..count).map(|_| rng.bytes(key)).collect();
         keys.sort();
-        let mut entry = |key| Entry { kind: 1, key, value: rng.bytes(40), sequence: rng.next() >> 48 };
+        let mut entry = |key| Entry { kind: 1, key, value: rng.bytes(VALUE), sequence: rng.next() & LIMIT };
         let entries: Vec<Entry> = keys.into_iter().map(&mut entry).collect();
         let (mut offsets, mut data, mut list) = (Vec::new(), Vec::new(), Vec::new());
         for part in entries.chunks(PER_BLOCK) {
@@ -42,6 +48,21 @@ impl Store {
     fn pairs(&self) -> Vec<(u64, u64)> {
         self.list.chunks_exact(2).map(|pair| (pair[0], pair[1])).collect()
     }
+
+    fn plain(&self) -> Index {
+        let index = open(&self.section, &self.data, &self.pairs()).expect("accepted");
+        assert!(index.record()[10] == 1 && index.record()[12] == 0 && index.bytes() == self.section);
+        index
+    }
+
+    /// The packed index, whose bytes are shorter than the section by the fingerprints and a byte per pilot.
+    fn packed(&self) -> Index {
+        let index = open_packed(&self.section, &self.data, &self.pairs()).expect("accepted").expect("packed");
+        let keys = self.entries.len();
+        assert_eq!(index.bytes().len(), self.section.len() - 2 * keys - keys.div_ceil(2));
+        assert_eq!(index.record()[12], 1);
+        index
+    }
 }
 
 fn rust_build(entries: &[Entry], offsets: &[u64]) -> Vec<u8> {
@@ -52,14 +73,23 @@ fn rust_build(entries: &[Entry], offsets: &[u64]) -> Vec<u8> {
     builder.finish().expect("a section")
 }
 
-fn per_unit(name: &str, units: usize, ours: Work, rust: Work) -> Row {
-    row(name.to_string(), units, None, ours, rust)
+/// 1000 as `1,000`.
+fn thousands(number: usize) -> String {
+    format!("{},{:03}", number / 1000, number % 1000)
+}
+
+fn per_unit(name: String, units: usize, ours: Work, rust: Work) -> Row {
+    row(name, units, None, ours, rust)
 }
 
 #[cfg(has = "kiban_open")]
 pub fn opening(rng: &mut Rng) -> Vec<Row> {
-    let store = Store::new(rng);
-    let s = store.clone();
+    SIZES.map(|keys| opening_row(&Store::new(rng, keys, KEY))).into()
+}
+
+#[cfg(has = "kiban_open")]
+fn opening_row(store: &Rc<Store>) -> Row {
+    let (s, keys) = (store.clone(), store.entries.len());
     let ours = repeated(move || {
         let (mut scratch, mut record) = ([0u8; 64], [0; 16]);
         let number = ours::open(black_box(&s.section), &s.data, &s.list, &mut scratch, &mut record);
@@ -70,78 +100,129 @@ pub fn opening(rng: &mut Rng) -> Vec<Row> {
     let pairs = store.pairs();
     let rust =
         repeated(move || open_shared(black_box(section.clone()), data.clone(), &pairs).expect("accepted").record()[0]);
-    vec![per_unit("opening, plain, per record", KEYS, ours, rust)]
+    per_unit(format!("opening, plain, {} keys, per record", thousands(keys)), keys, ours, rust)
 }
 
 #[cfg(has = "kiban_open_packed")]
 pub fn opening_packed(rng: &mut Rng) -> Vec<Row> {
-    let store = Store::new(rng);
-    let s = store.clone();
-    let mut output = vec![0; s.section.len()];
+    SIZES.map(|keys| packed_row(&Store::new(rng, keys, KEY))).into()
+}
+
+#[cfg(has = "kiban_open_packed")]
+fn our_packed(store: &Store, output: &mut [u8]) -> (Record, usize) {
+    let (mut scratch, mut record, mut length) = ([0u8; 64], [0; 16], 0);
+    let section = black_box(&store.section);
+    let number = ours::open_packed(section, &store.data, &store.list, &mut scratch, output, &mut record, &mut length);
+    assert_eq!(number, 0);
+    (record, length as usize)
+}
+
+#[cfg(has = "kiban_open_packed")]
+fn packed_row(store: &Rc<Store>) -> Row {
+    let (s, keys) = (store.clone(), store.entries.len());
+    let mut output = vec![0; store.packed().bytes().len()];
     let ours = repeated(move || {
-        let (mut scratch, mut record, mut length) = ([0u8; 64], [0; 16], 0);
-        let number = ours::open_packed(
-            black_box(&s.section),
-            &s.data,
-            &s.list,
-            &mut scratch,
-            &mut output,
-            &mut record,
-            &mut length,
-        );
-        assert_eq!(number, 0);
-        length
+        let (record, length) = our_packed(&s, &mut output);
+        let last = black_box(&output)[length - 1];
+        record[4] ^ length as u64 ^ u64::from(last)
     });
-    let (section, pairs): (Arc<[u8]>, _) = (store.section[..].into(), store.pairs());
+    let (s, section, pairs): (_, Arc<[u8]>, _) = (store.clone(), store.section[..].into(), store.pairs());
     let rust = repeated(move || {
-        let opened = open_packed_shared(black_box(section.clone()), &store.data, &pairs);
-        opened.expect("accepted").expect("packed").bytes().len() as u64
+        let opened = open_packed_shared(black_box(section.clone()), &s.data, &pairs);
+        let index = opened.expect("accepted").expect("packed");
+        let bytes = black_box(index.bytes());
+        index.record()[4] ^ bytes.len() as u64 ^ u64::from(bytes[bytes.len() - 1])
     });
-    vec![per_unit("opening, packed, per record", KEYS, ours, rust)]
+    per_unit(format!("opening, packed, {} keys, per record", thousands(keys)), keys, ours, rust)
+}
+
+/// The bytes and the record that our lookups get: the Rust's, which are our own packed ones too.
+#[cfg(has = "kiban_lookup")]
+fn lent(store: &Store, index: &Index) -> (Vec<u8>, Record) {
+    let mut record = [0; 16];
+    record[..13].copy_from_slice(&index.record());
+    #[cfg(has = "kiban_open_packed")]
+    if record[12] == 1 {
+        let mut output = vec![0; store.section.len()];
+        let (own, length) = our_packed(store, &mut output);
+        assert!(own == record && output[..length] == *index.bytes(), "both sides have the same packed bytes");
+    }
+    (index.bytes().to_vec(), record)
+}
+
+/// What of an answer goes into the sum that both sides must give.
+fn weighed(sequence: u64, offset: u64, length: u64, checksum: u64) -> u64 {
+    sequence ^ offset << 8 ^ length << 40 ^ checksum << 24
+}
+
+/// Both sides ask the keys, which stand one behind the other, in the same order.
+#[cfg(has = "kiban_lookup")]
+fn lookup_row(
+    name: String,
+    (section, record): (Vec<u8>, Record),
+    index: Index,
+    keys: Vec<u8>,
+    key: usize,
+    held: bool,
+) -> Row {
+    let units = keys.len() / key;
+    let asked = keys.clone();
+    let ours = repeated(move || {
+        let mut answer = [0; 6];
+        black_box(&asked).chunks_exact(key).fold(0, |sum: u64, key| {
+            let number = ours::lookup(black_box(&section), &record, key, black_box(LIMIT), &mut answer);
+            assert!(number == 0 && answer[0] == u64::from(held));
+            sum.wrapping_add(weighed(answer[2], answer[3], answer[4], answer[5]))
+        })
+    });
+    let rust = repeated(move || {
+        black_box(&keys).chunks_exact(key).fold(0, |sum: u64, key| {
+            let found = black_box(&index).locate_plain(key, black_box(LIMIT));
+            assert!(found.is_some() == held);
+            sum.wrapping_add(found.map_or(0, |v| weighed(v.sequence, v.offset, v.length, v.checksum.into())))
+        })
+    });
+    per_unit(name, units, ours, rust)
+}
+
+/// As many keys as are held, each once, in random order.
+fn shuffled(store: &Store, rng: &mut Rng) -> Vec<u8> {
+    let mut keys: Vec<&[u8]> = store.entries.iter().map(|entry| &entry.key[..]).collect();
+    (1..keys.len()).rev().for_each(|at| keys.swap(at, rng.between(0, at)));
+    keys.concat()
 }
 
 #[cfg(has = "kiban_lookup")]
-fn lookup_row(name: &str, index: Index, keys: Vec<Vec<u8>>) -> Row {
-    let mut record = [0; 16];
-    record[..13].copy_from_slice(&index.record());
-    let (section, asked) = (index.bytes().to_vec(), keys.clone());
-    let ours = repeated(move || {
-        let mut answer = [0; 6];
-        asked.iter().fold(0, |sum, key| {
-            ours::lookup(black_box(&section), &record, key, u64::MAX, &mut answer);
-            sum ^ answer[2]
-        })
-    });
-    let rust = repeated(move || {
-        keys.iter().fold(0, |sum, key| {
-            let found = black_box(&index).locate_plain(key, u64::MAX);
-            sum ^ found.map_or(0, |found| found.sequence)
-        })
-    });
-    per_unit(name, ASKED, ours, rust)
+fn lookup_rows(rng: &mut Rng, count: usize, key: usize) -> Vec<Row> {
+    let store = Store::new(rng, count, key);
+    let (held, absent) = (shuffled(&store, rng), rng.bytes(count * key));
+    let mut rows = Vec::new();
+    for (form, index) in [("plain", Store::plain as fn(&Store) -> Index), ("packed", Store::packed)] {
+        for (asked, keys, hit) in [("hit", &held, true), ("absent", &absent, false)] {
+            let name = format!("lookup, {form}, {} keys of {key} bytes, {asked}", thousands(count));
+            let index = index(&store);
+            rows.push(lookup_row(name, lent(&store, &index), index, keys.clone(), key, hit));
+        }
+    }
+    rows
 }
 
 #[cfg(has = "kiban_lookup")]
 pub fn lookups(rng: &mut Rng) -> Vec<Row> {
-    let store = Store::new(rng);
-    let held: Vec<Vec<u8>> = (0..ASKED).map(|_| store.entries[rng.below(KEYS)].key.clone()).collect();
-    let absent: Vec<Vec<u8>> = (0..ASKED).map(|_| rng.bytes(20)).collect();
-    let plain = || open(&store.section, &store.data, &store.pairs()).expect("accepted");
-    let packed = || open_packed(&store.section, &store.data, &store.pairs()).expect("accepted").expect("packed");
-    vec![
-        lookup_row("lookup, plain, hit", plain(), held.clone()),
-        lookup_row("lookup, plain, absent", plain(), absent.clone()),
-        lookup_row("lookup, packed, hit", packed(), held),
-        lookup_row("lookup, packed, absent", packed(), absent),
-    ]
+    SIZES
+        .iter()
+        .map(|&count| (count, KEY))
+        .chain([(SIZES[0], WHOLE_KEY)])
+        .flat_map(|(count, key)| lookup_rows(rng, count, key))
+        .collect()
 }
 
 #[cfg(has = "kiban_write")]
 pub fn building(rng: &mut Rng) -> Vec<Row> {
-    let store = Store::new(rng);
+    let store = Store::new(rng, BUILT, KEY);
     let s = store.clone();
-    let (mut area, mut output) = (vec![0; KEYS * 53], vec![0; s.section.len()]);
-    let mut scratch = Scratch { words: vec![0; KEYS], halves: vec![0; 6 * KEYS + 8] };
+    let (mut area, mut output) = (vec![0; BUILT * (8 + KEY + 25)], vec![0; s.section.len()]);
+    let mut scratch = Scratch { words: vec![0; BUILT], halves: vec![0; 6 * BUILT + 8] };
     let ours = repeated(move || {
         let (mut record, mut length) = ([0; 16], 0);
         for (e, &offset) in black_box(&s.entries).iter().zip(&s.offsets) {
@@ -153,5 +234,5 @@ pub fn building(rng: &mut Rng) -> Vec<Row> {
         length
     });
     let rust = repeated(move || rust_build(black_box(&store.entries), &store.offsets).len() as u64);
-    vec![per_unit("building, per record", KEYS, ours, rust)]
+    vec![per_unit(format!("building, {} keys, per record", thousands(BUILT)), BUILT, ours, rust)]
 }

@@ -16,6 +16,12 @@ pub fn le64(numbers: &[u64]) -> Vec<u8> {
     numbers.iter().flat_map(|number| number.to_le_bytes()).collect()
 }
 
+/// The numbers that these bytes are, if they are whole ones.
+pub fn numbers(bytes: &[u8]) -> Option<Vec<u64>> {
+    let (chunks, []) = bytes.as_chunks::<8>() else { return None };
+    Some(chunks.iter().map(|&chunk| u64::from_le_bytes(chunk)).collect())
+}
+
 fn longest_key(entries: &[Entry]) -> usize {
     entries.iter().map(|entry| entry.key.len()).max().unwrap_or(0)
 }
@@ -71,7 +77,7 @@ fn sealed(bytes: &[u8]) -> Vec<u8> {
 }
 
 /// Copies of bytes with one byte changed or cut off, sealed again and not.
-fn changed(bytes: &[u8]) -> Vec<Vec<u8>> {
+pub fn changed(bytes: &[u8]) -> Vec<Vec<u8>> {
     let mut all = Vec::new();
     for at in 0..bytes.len() {
         for mask in [1, 2, 4, 0x80, 0xff] {
@@ -125,6 +131,37 @@ pub fn wrapping() -> [(Input, Vec<u8>); 2] {
     address.section[arena + 8..arena + 10].copy_from_slice(&[1, 0]);
     seal(&mut address.section);
     [(sequence, Vec::new()), (address, b"K".to_vec())]
+}
+
+/// Stores of one to five keys, with and without scan part and checksums.
+pub fn small() -> Vec<Input> {
+    let mut all = vec![worked(0), worked(1), single()];
+    for count in [3, 5] {
+        let entry = |i: u8| Entry { kind: 1, key: vec![b'k', i], value: vec![i; i.into()], sequence: i.into() };
+        let entries: Vec<Entry> = (0..count).map(entry).collect();
+        for (checksums, prefix) in [(true, 0), (true, 2), (false, 0), (false, 2)] {
+            let form = Form { widths: [4, 1, 1, 1, 2], checksums, prefix, least: 0 };
+            all.push(build(&mut Rng::part(1, "small", 0), entries.clone(), Some(form)));
+        }
+    }
+    all
+}
+
+/// The store with one of its pilots at the edges of questions 8 and 10, with bit 31 and without, sealed again.
+pub fn pilots(input: &Input) -> Vec<Input> {
+    let number = |at: usize| u32::from_le_bytes(input.section[at..at + 4].try_into().expect("four bytes"));
+    let (n, b) = (number(16), number(20) as usize);
+    let edges = [0, n - 1, n, (1 << 23) - 1, 1 << 23, (1 << 23) + 1, 1 << 24, 1 << 30, (1 << 31) - 1];
+    let mut all = Vec::new();
+    for at in (0..b).map(|bucket| 64 + 4 * bucket) {
+        for pilot in edges.into_iter().flat_map(|edge| [edge, edge | 1 << 31]) {
+            let mut section = input.section.clone();
+            section[at..at + 4].copy_from_slice(&pilot.to_le_bytes());
+            seal(&mut section);
+            all.push(Input { section, ..input.clone() });
+        }
+    }
+    all
 }
 
 /// The choices of a section without keys' records: n, address width, bytes in the arena, flags, and of

@@ -78,7 +78,7 @@ pub fn plain(section: &[u8], data: &[u8], list: &[u64], scratch: usize) -> Resul
     with_list(rust_plain, section, data, list, scratch)
 }
 
-/// How long the packed form of a section is that passes 1 to 8.
+/// How long the packed form of a section is that passes 1 to 6.
 pub fn packed_length(section: &[u8]) -> usize {
     let number = |at: usize| u32::from_le_bytes(section[at..at + 4].try_into().unwrap()) as usize;
     let (n, b, address) = (number(16), number(20), number(32));

@@ -43,8 +43,16 @@ pub fn admitted(section: &[u8], record: &[u64; 16]) -> Result<Record, u64> {
     if own == Some(given) { Ok(given) } else { Err(24) }
 }
 
-fn uint(bytes: &[u8]) -> u64 {
+pub fn uint(bytes: &[u8]) -> u64 {
     bytes.iter().rev().fold(0, |number, &byte| number << 8 | u64::from(byte))
+}
+
+/// What ends in 25. The Rust panics at a read outside the section. A sum of 2^64 or more wraps there, and what follows
+/// may be anything.
+#[derive(Clone, Copy, Debug, PartialEq)]
+pub enum Unread {
+    Outside,
+    Wraps,
 }
 
 /// The section under a record, read at exact places.
@@ -76,12 +84,15 @@ impl<'a> Reader<'a> {
         }
     }
 
-    fn part(&self, at: u128, length: u128) -> Result<&'a [u8], u64> {
-        let inside = at + length <= self.section.len() as u128;
-        if inside { Ok(&self.section[at as usize..(at + length) as usize]) } else { Err(25) }
+    fn part(&self, at: u128, length: u128) -> Result<&'a [u8], Unread> {
+        let end = at + length;
+        if end <= self.section.len() as u128 {
+            return Ok(&self.section[at as usize..end as usize]);
+        }
+        Err(if end < 1 << 64 { Unread::Outside } else { Unread::Wraps })
     }
 
-    fn number(&self, at: u128, width: u128) -> Result<u128, u64> {
+    fn number(&self, at: u128, width: u128) -> Result<u128, Unread> {
         self.part(at, width).map(|bytes| uint(bytes).into())
     }
 
@@ -94,13 +105,13 @@ impl<'a> Reader<'a> {
     }
 
     /// The sequence of the version at `at`.
-    fn sequence(&self, at: u128) -> Result<u64, u64> {
+    fn sequence(&self, at: u128) -> Result<u64, Unread> {
         let stored = self.number(at, self.sequence)?;
-        u64::try_from(u128::from(self.least) + stored).map_err(|_| 25)
+        u64::try_from(u128::from(self.least) + stored).map_err(|_| Unread::Wraps)
     }
 
     /// Tombstone, length and offset of the version at `at`.
-    fn value(&self, at: u128) -> Result<(bool, u64, u64), u64> {
+    fn value(&self, at: u128) -> Result<(bool, u64, u64), Unread> {
         let value = self.number(at + self.sequence, self.value)? as u64;
         let offset = self.number(at + self.sequence + self.value, self.address)? as u64;
         let top = 1 << (8 * self.value - 1);
@@ -109,7 +120,8 @@ impl<'a> Reader<'a> {
 }
 
 /// Where the slot of a hash stands.
-fn slot(reader: &Reader, record: &Record, h: u64) -> Result<u128, u64> {
+pub fn slot_of(section: &[u8], record: &Record, h: u64) -> Result<u128, Unread> {
+    let reader = Reader::new(section, record);
     let (n, b, packed) = (record[2], u128::from(record[3]), record[12] == 1);
     let (wide, bucket) = (if packed { 3 } else { 4 }, u128::from(h % record[3]));
     let stored = reader.number(64 + bucket * wide, wide)? as u64;
@@ -124,10 +136,10 @@ fn slot(reader: &Reader, record: &Record, h: u64) -> Result<u128, u64> {
 }
 
 /// The lookup of an admitted record, in the order of the Rust's reads.
-pub fn lookup(section: &[u8], record: &Record, key: &[u8], limit: u64) -> Result<Option<Located>, u64> {
+pub fn lookup(section: &[u8], record: &Record, key: &[u8], limit: u64) -> Result<Option<Located>, Unread> {
     let r = Reader::new(section, record);
     let h = oracle::point::hash(key, record[0]);
-    let slot = slot(&r, record, h)?;
+    let slot = slot_of(section, record, h)?;
     if record[12] == 0 && r.number(slot + r.address, 2)? != u128::from(oracle::point::fingerprint(h)) {
         return Ok(None);
     }
@@ -146,7 +158,7 @@ pub fn lookup(section: &[u8], record: &Record, key: &[u8], limit: u64) -> Result
     version(&r, own + suffix, versions, limit)
 }
 
-fn version(r: &Reader, first: u128, versions: u128, limit: u64) -> Result<Option<Located>, u64> {
+fn version(r: &Reader, first: u128, versions: u128, limit: u64) -> Result<Option<Located>, Unread> {
     for i in 0..versions {
         let at = first + i * r.version();
         let sequence = r.sequence(at)?;
@@ -170,7 +182,7 @@ pub struct Span {
 }
 
 /// The span of an admitted record.
-pub fn span(section: &[u8], record: &Record, first: u64, count: u64, limit: u64) -> Result<Span, u64> {
+pub fn span(section: &[u8], record: &Record, first: u64, count: u64, limit: u64) -> Result<Span, Unread> {
     let r = Reader::new(section, record);
     let mut span = Span::default();
     let mut offset = r.number(u128::from(record[11]) + 24 + u128::from(first) * r.address, r.address)?;
@@ -191,7 +203,7 @@ pub fn span(section: &[u8], record: &Record, first: u64, count: u64, limit: u64)
 }
 
 /// Tombstone, length and offset of the first version within the limit.
-fn newest(r: &Reader, first: u128, versions: u128, limit: u64) -> Result<Option<(bool, u64, u64)>, u64> {
+fn newest(r: &Reader, first: u128, versions: u128, limit: u64) -> Result<Option<(bool, u64, u64)>, Unread> {
     for i in 0..versions {
         let at = first + i * r.version();
         if r.sequence(at)? <= limit {

@@ -195,7 +195,7 @@ pub fn section(entries: &[Entry], offsets: &[u64], form: &Form) -> Option<Sectio
     Some(out)
 }
 
-/// The records of the blocks that can be walked.
+/// The records of the blocks that can be walked, with their values' places in the data.
 pub fn records(data: &[u8], list: &[u64]) -> Vec<oracle::block::Record> {
     let mut all = Vec::new();
     for pair in list.chunks_exact(2) {
@@ -203,7 +203,9 @@ pub fn records(data: &[u8], list: &[u64]) -> Vec<oracle::block::Record> {
         let Some(end) = end else { break };
         let raw = &data[pair[0] as usize..end as usize];
         if let Ok(meta) = oracle::block::verify(raw) {
-            all.extend(oracle::block::walk(raw, meta).0);
+            for record in oracle::block::walk(raw, meta).0 {
+                all.push(oracle::block::Record { place: pair[0] as usize + record.place, ..record });
+            }
         }
     }
     all

@@ -20,6 +20,8 @@ mod opening_expected;
 mod ours;
 #[path = "../common/reading.rs"]
 mod reading;
+#[path = "../common/reads.rs"]
+mod reads;
 #[path = "../common/rng.rs"]
 mod rng;
 #[path = "../common/stores.rs"]

@@ -3,7 +3,7 @@ use crate::Layer;
 use crate::blocks::Entry;
 use crate::buffer::Buffer;
 use crate::case::{Answer, Case};
-use crate::forge::{self, Input, le64};
+use crate::forge::{self, Input, le64, numbers};
 use crate::opening_expected as expected;
 use crate::ours;
 use crate::rng::Rng;
@@ -15,11 +15,6 @@ pub const LAYER: Layer = Layer { name: "opening", kinds: &["open", "open_packed"
 /// What record and length hold before the call.
 const BEFORE: [u64; 16] = [77; 16];
 const OUTPUT: u8 = 0xa5;
-
-fn numbers(bytes: &[u8]) -> Option<Vec<u64>> {
-    let (chunks, []) = bytes.as_chunks::<8>() else { return None };
-    Some(chunks.iter().map(|&chunk| u64::from_le_bytes(chunk)).collect())
-}
 
 /// Numbers: scratch, shift, and for the packed form the length of the output. Parts: section, data, list.
 fn ask(case: &Case) -> Option<(Answer, Answer)> {
@@ -106,16 +101,29 @@ fn both(run: &mut Run, input: &Input, scratch: usize, output: usize, shift: u64)
     }
 }
 
-/// Each byte of a small store's section and data changed, sealed again and not, and each cut.
+/// Lengths of the output about the packed length: one too short, exact, longer, and as long as the section and more.
+fn rooms(section: &[u8]) -> [usize; 6] {
+    let length =
+        if oracle::compact::header(section).is_ok() { expected::packed_length(section) } else { section.len() };
+    [0, length.saturating_sub(1), length, length + 1, section.len(), section.len() + 40]
+}
+
+/// Each byte of a small store's section and data changed, sealed again and not, and each cut; small stores with their
+/// pilots at the edges, and beside lists and scratches that other questions refuse.
 fn fixed(run: &mut Run) {
     for store in [forge::worked(0), forge::worked(1), forge::single()] {
-        for scratch in 0..8 {
-            for output in [0, 129, 130, 131, 200] {
-                both(run, &store, scratch, output, 0);
-            }
-        }
         for input in forge::neighbours(&store) {
             both(run, &input, 64, 200, 0);
+        }
+    }
+    for store in forge::small() {
+        for room in rooms(&store.section) {
+            (0..8).for_each(|scratch| both(run, &store, scratch, room, 0));
+            for input in forge::pilots(&store) {
+                both(run, &input, 64, room, 0);
+                both(run, &input, 0, room, 0);
+                both(run, &Input { list: vec![0], ..input }, 64, room, 0);
+            }
         }
     }
     let wrapping = forge::wrapping().map(|(input, _)| input);
@@ -139,8 +147,8 @@ fn long_keys(run: &mut Run) {
 fn round(run: &mut Run, rng: &mut Rng) {
     for input in forge::forge(rng) {
         let scratch = if rng.one_in(4) { rng.between(0, 2 * input.longest_key + 2) } else { 2000 };
-        let less = if rng.one_in(4) { rng.between(0, 40) } else { 0 };
-        let output = input.section.len().saturating_sub(less);
+        let less = if rng.one_in(8) { rng.between(0, 40) } else { 0 };
+        let output = rng.pick(&rooms(&input.section)[1..]).saturating_sub(less);
         both(run, &input, scratch, output, rng.next() % 8);
     }
 }

@@ -63,7 +63,7 @@ fn pairs(case: &Case, record: &[u64; 16]) -> Result<Vec<u64>, u64> {
     if 2 * u128::from(count) > u128::from(places) {
         return Err(29);
     }
-    let span = reading::span(section, &record, first, count, limit)?;
+    let span = reading::span(section, &record, first, count, limit).map_err(|_| 25u64)?;
     let comparable =
         span.sliced.iter().all(|&slice| inside(slice, data)) && !(limit == u64::MAX && span.without_versions);
     if comparable && rust(section, data, &record, first, count, limit) != Ok(span.pairs.clone()) {

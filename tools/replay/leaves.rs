@@ -11,7 +11,7 @@ const MOST_ROOM: usize = 64;
 
 pub fn crc(rng: &mut Rng) -> List {
     let mut list = List::default();
-    let mut add = |data: &[u8]| list.add(&item(data, &[oracle::crc32::crc32(data).into()]), 0);
+    let mut add = |data: &[u8]| list.add(&item(data, &[oracle::crc32::crc32(data).into()]), &[0]);
     add(b"123456789");
     let mut length = 0;
     while add(&rng.bytes(length)) {
@@ -44,7 +44,7 @@ pub fn hash(rng: &mut Rng) -> List {
         let direct = if rng.one_in(3) { 1 << 31 } else { 0 };
         let pilot = direct | (rng.next() as u32 & 0x7fff_ffff) >> rng.below(31);
         let n = 1 + (rng.next() >> (33 + rng.below(31))) as usize;
-        if !list.add(&hash_item(&rng.bytes(length), seed, pilot, n), 0) {
+        if !list.add(&hash_item(&rng.bytes(length), seed, pilot, n), &[0]) {
             return list;
         }
         round += 1;
@@ -57,7 +57,7 @@ fn add_verify(list: &mut List, raw: &[u8]) -> bool {
         Ok(meta) => (0, meta.map(|n| n as u64)),
         Err(error) => (number(&error), [0; 3]),
     };
-    list.add(&item(raw, &[&[answer], &meta[..]].concat()), answer)
+    list.add(&item(raw, &[&[answer], &meta[..]].concat()), &[answer])
 }
 
 /// A small valid block.
@@ -114,7 +114,7 @@ fn add_walk(list: &mut List, raw: &[u8], room: usize) -> bool {
         let places = [r.place, r.length, r.place + r.length].map(|n| n as u64);
         case.extend(item(&r.key, &[&[r.kind.into(), r.sequence], &places[..]].concat()));
     }
-    list.add(&case, answer)
+    list.add(&case, &[answer])
 }
 
 pub fn walk(rng: &mut Rng) -> List {
@@ -137,7 +137,7 @@ pub fn trailer(rng: &mut Rng) -> List {
     let mut list = List::default();
     let mut add = |raw: &[u8]| {
         let answer = rust::trailer(raw).map_or_else(|error| number(&error), |()| 0);
-        list.add(&item(raw, &[answer]), answer)
+        list.add(&item(raw, &[answer]), &[answer])
     };
     let mut length = 0;
     loop {

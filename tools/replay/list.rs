@@ -5,6 +5,9 @@ use std::path::Path;
 /// No list is longer, so that a program can load it into one array of this length.
 pub const ROOM: usize = 16_384;
 
+/// What every place that a question may write holds before it.
+pub const BEFORE: u64 = 7;
+
 #[derive(Default)]
 pub struct List {
     bytes: Vec<u8>,
@@ -19,15 +22,24 @@ pub fn item(bytes: &[u8], numbers: &[u64]) -> Vec<u8> {
 }
 
 impl List {
-    /// Adds a case of one or more items, or leaves the list as it is and says false.
-    pub fn add(&mut self, case: &[u8], answer: u64) -> bool {
+    /// Adds a case of one or more items with the numbers that it expects, or leaves the list as it is and says false.
+    pub fn add(&mut self, case: &[u8], answers: &[u64]) -> bool {
         let fits = self.bytes.len() + case.len() <= ROOM;
         if fits {
             self.bytes.extend(case);
             self.cases += 1;
-            *self.answers.entry(answer).or_default() += 1;
+            answers.iter().for_each(|&answer| *self.answers.entry(answer).or_default() += 1);
         }
         fits
+    }
+
+    /// Whether a case expects this number.
+    pub fn has(&self, number: u64) -> bool {
+        self.answers.contains_key(&number)
+    }
+
+    pub fn cases(&self) -> usize {
+        self.cases
     }
 
     pub fn write(&self, to: &Path, name: &str) {

@@ -2,6 +2,7 @@
 mod blocks;
 mod leaves;
 mod list;
+mod lookups;
 mod opens;
 
 ghost use Prim.Native.Nat.{_+_, _≤_, _<_};
@@ -24,6 +25,9 @@ fn check(list: &[u8], name: u8, at: usize) -> Checked
         b'h' => leaves::hash(list, at),
         b't' => leaves::trailer(list, at),
         b'o' => opens::open(list, at),
+        b'r' => opens::run(list, at),
+        b'l' => lookups::lookup(list, at),
+        b'f' => lookups::lookup(list, at),
         b'v' => blocks::verify(list, at),
         _ => blocks::walk(list, at),
     }

@@ -18,6 +18,10 @@ pub fn part(list: &[u8], at: usize, len: usize) -> &[u8] {
     &list[0..0]
 }
 
+pub fn byte(list: &[u8], at: usize) -> u8 {
+    if at < list.len() { list[at] } else { 0 }
+}
+
 pub fn number(list: &[u8], at: usize) -> u64 {
     if list.len() < 8 {
         return 0;
