@@ -361,10 +361,11 @@ fn slot_read(section: &[u8], o: Opened, key: &[u8], limit: u64, h: u64, at: usiz
 pub fn locate(section: &[u8], o: Opened, key: &[u8], limit: u64) -> Located
     ensures { λ r. ⌜ r ≡ locateOf (now (section .entry)) o (now (key .entry)) limit ⌝ }
 {
+    // The hash waits on itself; the tests of 24 go on meanwhile.
+    let h = point::hash(key, o.seed);
     if !header::is_record(section, o) {
         return Located::Refused(24);
     }
-    let h = point::hash(key, o.seed);
     let at = slot_at(section, o, h);
     slot_read(section, o, key, limit, h, at)
 }
