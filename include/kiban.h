@@ -13,14 +13,14 @@ uint32_t kiban_crc32(const uint8_t *data, size_t data_len);
 /* Opens a section beside its backing data and its block list (pairs of offset and length, `blocks_len` numbers in all).
  * The scratch has room for two keys. On 0 the record holds: seed, least sequence, keys, buckets, arena start, the widths of
  * address, key, count, sequence and value, checksums (0 or 1), scan place, packed (0), and three zeros.
- * On x86-64 it took 8,912 bytes of stack for the worked store of document 01, of which 8,192 are the CRC tables. */
+ * On x86-64 it took 9,352 bytes of stack for the worked store of document 01, of which 8,192 are the CRC tables. */
 uint64_t kiban_open(const uint8_t *section, size_t section_len, const uint8_t *data, size_t data_len,
                     const uint64_t *blocks, size_t blocks_len, uint8_t *scratch, size_t scratch_len,
                     uint64_t record[16]);
 
 /* Opens a section as kiban_open does, and writes its packed form to the output, which needs no more room than the section
  * has. On 0 the record is the packed one (packed 1, scan place 0), `*len` is the number of packed bytes, and the output
- * keeps what it held behind them. */
+ * keeps what it held behind them. It took 9,480 bytes of stack for the worked store. */
 uint64_t kiban_open_packed(const uint8_t *section, size_t section_len, const uint8_t *data, size_t data_len,
                            const uint64_t *blocks, size_t blocks_len, uint8_t *scratch, size_t scratch_len,
                            uint8_t *output, size_t output_len, uint64_t record[16], uint64_t *len);
@@ -28,7 +28,7 @@ uint64_t kiban_open_packed(const uint8_t *section, size_t section_len, const uin
 /* Looks a key up in a section, or in a packed form, by the record that its opening wrote: the version of greatest sequence
  * not above the limit. On 0 the answer holds: found (0 none, 1), kind (1 Put, 2 Tombstone), sequence, offset and length of
  * the value in the data, and its CRC-32 (0 without checksums); six zeros for none. A record that these bytes do not give
- * is 24. */
+ * is 24. It took 416 bytes of stack in the worked store, and 360 in its packed form. */
 uint64_t kiban_lookup(const uint8_t *section, size_t section_len, const uint64_t record[16],
                       const uint8_t *key, size_t key_len, uint64_t limit, uint64_t answer[6]);
 

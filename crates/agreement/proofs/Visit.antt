@@ -12,11 +12,9 @@ use borrow.Author.Tests.{eqb-true, eqb-false, eq-eqb, ne-eqb, leb-true, le-leb, 
 use Rattle.num.specs.Choice.{if_then_else_, both, either}
 use Rattle.num.specs.Number.{leAt}
 use Rattle.num.specs.Order.{lessThan}
-use Rattle.num.proofs.Choice.{false-true, both-true, true-both, if-case, if-first, if-true, if-false, either-second, second-either}
+use Rattle.num.proofs.Choice.{both-true, true-both, if-case, if-first, if-true, if-false, either-second, second-either}
 use Rattle.num.proofs.Order.{equalBytes-true, equalBytes-same}
 use Rattle.crc32.specs.V42.{crcOf}
-use Rattle.sstable.specs.declared.Kind.{Kind}
-use Rattle.sstable.specs.declared.Kind.the-variants.{Put, Tombstone}
 use Rattle.block.specs.Walk.{Entry}
 use Rattle.point.specs.Hash.{hashOf, fingerprintOf}
 use Rattle.encoding.specs.Encoding.{scanHeaderLen, group, keyHeaderOf, versionOf}
@@ -25,7 +23,8 @@ use Rattle.arena.specs.declared.Cursor.{Cursor}
 use Rattle.arena.specs.declared.Visited.{Visited}
 use Rattle.arena.specs.declared.Visited.the-variants.{Went, Refused}
 use Rattle.arena.specs.Key.{keyHeaderAt, atAnchor, suffixAddress, anchorOf, anchorLenOf, keyInside, keyFits, keyRises, scanNames, slotPlace, slotNames, prefixChanges, entered, keyFor, keyOf}
-use Rattle.arena.specs.Version.{storedKey, storedSeq, storedValue, kindIn, lengthIn, storedOffset, storedChecksum, sameKind, versionAgrees, checksumAgrees, advanced, versionFor, visitOf}
+use Rattle.arena.specs.Version.{storedKey, storedSeq, storedValue, kindIn, lengthIn, storedOffset, storedChecksum, versionAgrees, checksumAgrees, advanced, versionFor, visitOf}
+use Rattle.arena.proofs.Questions.{sameKind-true, sameKind-same}
 use Rattle.agreement.specs.Keys.{addressOf, headerOfKey, versionsOf, suffixPlace, anchorIndex, keyAt, versionPlace, versionSeq, versionKind, versionLength, versionOffset, versionChecksum, prefixAt, prefixNew, prefixCount}
 use Rattle.agreement.specs.Agrees.{KeyStands, SameVersion}
 use Rattle.agreement.proofs.Indices.{anchor-self, anchor-before, versions-behind}
@@ -303,21 +302,6 @@ pub record VersionAsked (s : List ℕ) (o : Opened) (k j : ℕ) (e : Entry) (val
   pub falls : (i : ℕ) → j ≡ suc i → e .seq < versionSeq s o k i
   pub checksum : o .encoding .checksum ≡ true → versionChecksum s o k j ≡ crcOf value
 
-same-kind : (a b : Kind) → sameKind a b ≡ true → b ≡ a
-unfolding sameKind
-same-kind Put Put e = refl
-same-kind Put Tombstone e = false-true e
-same-kind Tombstone Put e = false-true e
-same-kind Tombstone Tombstone e = refl
-
-kind-same : (a b : Kind) → b ≡ a → sameKind a b ≡ true
-unfolding sameKind
-kind-same a b e = ap (sameKind a) e ∙ itself a
-  where
-    itself : (a : Kind) → sameKind a a ≡ true
-    itself Put = refl
-    itself Tombstone = refl
-
 module _ (s : List ℕ) (o : Opened) (k j : ℕ) (c : Cursor) (w : Within s o k j c) where
   key-is : storedKey s o c ≡ keyAt s o k
   unfolding storedKey keyAt suffixPlace
@@ -339,7 +323,7 @@ module _ (s : List ℕ) (o : Opened) (k j : ℕ) (c : Cursor) (w : Within s o k 
             record {
               key = equalBytes-true _ _ (b₁ .0) ∙ key-is;
               seq = sym (eqb-true _ _ (b₃ .0)) ∙ ap (storedSeq s o) (w .pos);
-              kind = same-kind _ _ (b₄ .0) ∙ ap (λ (p : ℕ). kindIn o (storedValue s o p)) (w .pos);
+              kind = sym (sameKind-true _ _ (b₄ .0)) ∙ ap (λ (p : ℕ). kindIn o (storedValue s o p)) (w .pos);
               size = sym (eqb-true _ _ (b₅ .0)) ∙ ap (λ (p : ℕ). lengthIn o (storedValue s o p)) (w .pos);
               place = sym (eqb-true _ _ (b₅ .1)) ∙ ap (storedOffset s o) (w .pos);
             };
@@ -364,7 +348,7 @@ module _ (s : List ℕ) (o : Opened) (k j : ℕ) (c : Cursor) (w : Within s o k 
       let m : e .seq < c .«last_seq» = omega arith in
       lt-ltb _ _ m))
       (true-both _ _ (eq-eqb _ _ (ap (storedSeq s o) (w .pos) ∙ sym (f .seq)))
-      (true-both _ _ (kind-same _ _ (f .kind ∙ sym (ap (λ (p : ℕ). kindIn o (storedValue s o p)) (w .pos))))
+      (true-both _ _ (sameKind-same _ _ (ap (λ (p : ℕ). kindIn o (storedValue s o p)) (w .pos) ∙ sym (f .kind)))
       (true-both _ _ (eq-eqb _ _ (ap (λ (p : ℕ). lengthIn o (storedValue s o p)) (w .pos) ∙ sym (f .size)))
       (eq-eqb _ _ (ap (storedOffset s o) (w .pos) ∙ sym (f .place)))))))
 
