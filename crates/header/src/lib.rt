@@ -22,6 +22,7 @@ ghost use Rattle.header.specs.Header.{
   sameEncoding,
   sameCounts,
   sameRecord,
+  plainFor,
   packedOf,
   recordOf,
 };
@@ -383,6 +384,40 @@ fn is_packed(section: &[u8], o: Opened) -> bool
     same_record(packed, o)
 }
 
+// Question 24 of a plain record, behind 3 and 4, where the header has the scan flag.
+fn is_scanned(section: &[u8], found: Opened, o: Opened) -> bool
+    requires { ⌜ Dimensions found ⌝ }
+    requires { ⌜ 69 ≤ length (now section) ⌝ }
+    ensures { λ r. ⌜ r ≡ plainFor (scannedOf (now (section .entry)) found) o ⌝ }
+{
+    let read = scanned(section, found);
+    match read {
+        HeaderRead::Accepted(whole) => same_record(whole, o),
+        HeaderRead::Refused(_) => false,
+    }
+}
+
+// Question 24 of a plain record. It asks what `header` asks without handing a record over: lookups ask it each time.
+fn is_plain(section: &[u8], o: Opened) -> bool
+    ensures { λ r. ⌜ r ≡ plainFor (headerOf (now (section .entry))) o ⌝ }
+{
+    if !begins(section) {
+        return false;
+    }
+    let found = fields(section);
+    let flags = num::u32_at(section, 52);
+    if !dimensions(found, flags) {
+        return false;
+    }
+    if section.len() - Encoding::TRAILER <= found.arena {
+        return false;
+    }
+    if has_flag(Encoding::SCAN_FLAG, flags) {
+        return is_scanned(section, found, o);
+    }
+    same_record(found, o)
+}
+
 // Question 24.
 pub fn is_record(section: &[u8], o: Opened) -> bool
     ensures { λ r. ⌜ r ≡ recordOf (now (section .entry)) o ⌝ }
@@ -390,9 +425,5 @@ pub fn is_record(section: &[u8], o: Opened) -> bool
     if o.packed {
         return is_packed(section, o);
     }
-    let read = header(section);
-    match read {
-        HeaderRead::Accepted(found) => same_record(found, o),
-        HeaderRead::Refused(_) => false,
-    }
+    is_plain(section, o)
 }
