@@ -28,7 +28,7 @@ uint64_t kiban_open_packed(const uint8_t *section, size_t section_len, const uin
 /* Looks a key up in a section, or in a packed form, by the record that its opening wrote: the version of greatest sequence
  * not above the limit. On 0 the answer holds: found (0 none, 1), kind (1 Put, 2 Tombstone), sequence, offset and length of
  * the value in the data, and its CRC-32 (0 without checksums); six zeros for none. A record that these bytes do not give
- * is 24. It took 416 bytes of stack in the worked store, and 360 in its packed form. */
+ * is 24. It took 264 bytes of stack in the worked store and in its packed form. */
 uint64_t kiban_lookup(const uint8_t *section, size_t section_len, const uint64_t record[16],
                       const uint8_t *key, size_t key_len, uint64_t limit, uint64_t answer[6]);
 
