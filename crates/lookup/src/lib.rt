@@ -41,7 +41,7 @@ pub struct ValueLocator {
     pub checksum: u64,
 }
 
-// The version of greatest sequence within the limit, none, or the number of the question that failed.
+// The first stored version of the key that is not above the limit, none, or the number of the question that failed.
 pub enum Located {
     Found(ValueLocator),
     Missing,
