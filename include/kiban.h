@@ -1,6 +1,8 @@
 /* The delivered interface for a linker or a loader: link libkiban.a (rt staticlib kiban).
- * A result is 0 or the number of document 01 for the first question that is answered by no; on a refusal nothing behind
- * a pointer changes but scratch. No entry allocates. */
+ * A result is 0 or the number of document 01 for the first question that is answered with no; on a refusal nothing behind
+ * a pointer changes but scratch. No entry allocates.
+ * Memory that an entry writes (scratch, output, record, len, answer) must not overlap any other memory of the same call: the
+ * proofs rest on it. What is only read may overlap. */
 #ifndef KIBAN_H
 #define KIBAN_H
 
@@ -28,7 +30,8 @@ uint64_t kiban_open_packed(const uint8_t *section, size_t section_len, const uin
 /* Looks a key up in a section, or in a packed form, by the record that its opening wrote: the version of greatest sequence
  * not above the limit. On 0 the answer holds: found (0 none, 1), kind (1 Put, 2 Tombstone), sequence, offset and length of
  * the value in the data, and its CRC-32 (0 without checksums); six zeros for none. A record that these bytes do not give
- * is 24. It took 264 bytes of stack in the worked store and in its packed form. */
+ * is 24. A packed form is given as exactly the `*len` bytes that kiban_open_packed counted, not as the whole output.
+ * It took 264 bytes of stack in the worked store and in its packed form. */
 uint64_t kiban_lookup(const uint8_t *section, size_t section_len, const uint64_t record[16],
                       const uint8_t *key, size_t key_len, uint64_t limit, uint64_t answer[6]);
 

@@ -1,50 +1,87 @@
-//! A list of items: a length of 2 bytes, so many bytes, then numbers of 8 bytes, all little-endian.
-use std::collections::BTreeMap;
+//! A list: bytes, and rows of numbers that name parts of them. All numbers have 8 bytes and are little-endian.
+use crate::forge::le64;
+use std::collections::{BTreeMap, HashMap};
 use std::path::Path;
 
 /// No list is longer, so that a program can load it into one array of this length.
-pub const ROOM: usize = 16_384;
+const ROOM: usize = 65_536;
+
+/// The two numbers before the bytes: how many rows there are, and where the first one stands.
+const HEAD: usize = 16;
 
 /// What every place that a question may write holds before it.
 pub const BEFORE: u64 = 7;
 
+/// What a row asks.
+#[derive(Clone, Copy)]
+pub enum Kind {
+    Crc = 1,
+    Hash,
+    Trailer,
+    Verify,
+    Record,
+    Open,
+    Lookup,
+    Value,
+}
+
 #[derive(Default)]
 pub struct List {
     bytes: Vec<u8>,
-    cases: usize,
+    places: HashMap<Vec<u8>, u64>,
+    rows: Vec<(Kind, Vec<u64>)>,
     answers: BTreeMap<u64, usize>,
 }
 
-pub fn item(bytes: &[u8], numbers: &[u64]) -> Vec<u8> {
-    let length = u16::try_from(bytes.len()).expect("a short item");
-    let numbers = numbers.iter().flat_map(|number| number.to_le_bytes());
-    length.to_le_bytes().into_iter().chain(bytes.iter().copied()).chain(numbers).collect()
-}
-
 impl List {
-    /// Adds a case of one or more items with the numbers that it expects, or leaves the list as it is and says false.
-    pub fn add(&mut self, case: &[u8], answers: &[u64]) -> bool {
-        let fits = self.bytes.len() + case.len() <= ROOM;
-        if fits {
-            self.bytes.extend(case);
-            self.cases += 1;
-            answers.iter().for_each(|&answer| *self.answers.entry(answer).or_default() += 1);
+    /// Place and length of these bytes, which stand in the list once.
+    pub fn part(&mut self, bytes: &[u8]) -> [u64; 2] {
+        let end = (HEAD + self.bytes.len()) as u64;
+        let place = *self.places.entry(bytes.to_vec()).or_insert(end);
+        if place == end {
+            self.bytes.extend(bytes);
         }
-        fits
+        [place, bytes.len() as u64]
     }
 
-    /// Whether a case expects this number.
-    pub fn has(&self, number: u64) -> bool {
-        self.answers.contains_key(&number)
+    /// The place of these numbers.
+    pub fn numbers(&mut self, numbers: &[u64]) -> u64 {
+        self.part(&le64(numbers))[0]
     }
 
-    pub fn cases(&self) -> usize {
-        self.cases
+    /// Adds a row with the answers that it expects.
+    pub fn row(&mut self, kind: Kind, numbers: &[u64], answers: &[u64]) {
+        self.rows.push((kind, numbers.to_vec()));
+        answers.iter().for_each(|&answer| *self.answers.entry(answer).or_default() += 1);
+    }
+
+    /// Whether a row expects this answer.
+    pub fn has(&self, answer: u64) -> bool {
+        self.answers.contains_key(&answer)
+    }
+
+    pub fn rows(&self) -> usize {
+        self.rows.len()
+    }
+
+    /// Each row says where the next one stands.
+    fn encoded(&self) -> Vec<u8> {
+        let mut next = HEAD + self.bytes.len();
+        let mut all = le64(&[self.rows.len() as u64, next as u64]);
+        all.extend(&self.bytes);
+        for (kind, numbers) in &self.rows {
+            next += 8 * (2 + numbers.len());
+            all.extend(le64(&[*kind as u64, next as u64]));
+            all.extend(le64(numbers));
+        }
+        assert!(all.len() <= ROOM, "{} bytes", all.len());
+        all
     }
 
     pub fn write(&self, to: &Path, name: &str) {
-        std::fs::write(to.join(name), &self.bytes).expect("a folder to write to");
+        let all = self.encoded();
         let each: Vec<String> = self.answers.iter().map(|(n, c)| format!("{n} x {c}")).collect();
-        println!("{name}: {} bytes, {} cases, answers {}", self.bytes.len(), self.cases, each.join(", "));
+        println!("{name}: {} bytes, {} rows, answers {}", all.len(), self.rows.len(), each.join(", "));
+        std::fs::write(to.join(name), all).expect("a folder to write to");
     }
 }

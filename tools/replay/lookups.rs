@@ -1,6 +1,6 @@
 //! Lookups and values: in accepted stores, in changed ones, under changed records.
 use crate::forge::{Input, forge, single, worked};
-use crate::list::{BEFORE, List, item};
+use crate::list::{BEFORE, Kind, List};
 use crate::reading;
 use crate::reads::{self, Asked, unasked};
 use crate::rng::Rng;
@@ -31,8 +31,7 @@ fn edges(data: &[u8]) -> Vec<(u64, u64)> {
     vec![(0, end), (0, end + 1), (end, 0), (end, 1), (end + 1, 0), (u64::MAX, 1), (1, u64::MAX), (u64::MAX, end + 1)]
 }
 
-/// The section with the record's sixteen numbers and the count of questions; the questions; the data with the count of
-/// places; the places, what was found among them.
+/// The questions in a section, then places of values in the data, with those of what was found among them.
 fn add(
     list: &mut List,
     section: &[u8],
@@ -40,25 +39,33 @@ fn add(
     questions: &[Question],
     data: &[u8],
     mut places: Vec<(u64, u64)>,
-) -> bool {
-    let mut case = item(section, &[&record[..], &[questions.len() as u64]].concat());
-    let mut numbers = Vec::new();
+) {
     for question in questions {
         let (number, answer) = answer(section, record, question);
-        case.extend(item(&question.0, &[&[question.1, number], &answer[..]].concat()));
-        numbers.push(number);
+        add_lookup(list, section, record, question, number, &answer);
         if number == 0 && answer[0] == 1 {
             places.push((answer[3], answer[4]));
         }
     }
     places.sort();
     places.dedup();
-    case.extend(item(data, &[places.len() as u64]));
+    let [place, size] = list.part(data);
     for (offset, length) in places {
-        numbers.push(if inside(data, offset, length) { 0 } else { 26 });
-        case.extend([offset, length, numbers[numbers.len() - 1]].iter().flat_map(|number| number.to_le_bytes()));
+        let number = if inside(data, offset, length) { 0 } else { 26 };
+        list.row(Kind::Value, &[place, size, offset, length, number], &[number]);
     }
-    list.add(&case, &numbers)
+}
+
+fn add_lookup(
+    list: &mut List,
+    section: &[u8],
+    record: &[u64; 16],
+    (key, limit): &Question,
+    number: u64,
+    answer: &[u64; 6],
+) {
+    let row = [&list.part(section)[..], &list.part(key), &[*limit, list.numbers(record), number, list.numbers(answer)]];
+    list.row(Kind::Lookup, &row.concat(), &[number]);
 }
 
 fn record(index: &Index) -> [u64; 16] {
@@ -98,13 +105,13 @@ fn records_changed(list: &mut List) {
         let index = &forms[place % 2];
         let mut other = record(index);
         other[place] ^= 1;
-        assert!(add(list, index.bytes(), &other, ask, &[], Vec::new()));
+        add(list, index.bytes(), &other, ask, &[], Vec::new());
     }
     for input in [worked(0), worked(1)] {
         let ask: &[Question] = &[(b"ab".to_vec(), u64::MAX), (b"x".to_vec(), 9)];
         for (index, packed) in indexes(&input).iter().zip([true, false]) {
             let other = unasked(index.bytes(), packed).expect("a header");
-            assert!(add(list, index.bytes(), &other, ask, &[], Vec::new()));
+            add(list, index.bytes(), &other, ask, &[], Vec::new());
         }
     }
 }
@@ -131,7 +138,7 @@ fn reads_changed(list: &mut List) {
                 let data = if expected == 0 || expected == 25 { &[] } else { &input.data[..] };
                 let some: Vec<&Asked> = all.iter().filter(|asked| outcome(asked, &input.data) == expected).collect();
                 for (section, record, key, limit) in some.iter().step_by(some.len() / count + 1) {
-                    assert!(add(list, section, record, &[(key.clone(), *limit)], data, Vec::new()));
+                    add(list, section, record, &[(key.clone(), *limit)], data, Vec::new());
                 }
             }
         }
@@ -150,19 +157,20 @@ pub fn forged(_: &mut Rng) -> List {
 /// Document 01's worked store and others, in both forms.
 pub fn lookup(rng: &mut Rng) -> List {
     let mut list = List::default();
-    let mut add = |input: &Input, index: &Index| {
-        add(&mut list, index.bytes(), &record(index), &questions(input), &input.data, edges(&input.data))
+    let add = |list: &mut List, input: &Input, index: &Index| {
+        add(list, index.bytes(), &record(index), &questions(input), &input.data, edges(&input.data))
     };
     for input in [worked(0), worked(1), single()] {
-        indexes(&input).iter().for_each(|index| assert!(add(&input, index)));
+        indexes(&input).iter().for_each(|index| add(&mut list, &input, index));
     }
-    loop {
+    while list.rows() < 300 {
         for input in forge(rng).iter().filter(|input| input.section.len() + input.data.len() < 300) {
             for index in indexes(input) {
-                if rng.one_in(3) && !add(input, &index) {
-                    return list;
+                if rng.one_in(3) {
+                    add(&mut list, input, &index);
                 }
             }
         }
     }
+    list
 }

@@ -1,47 +1,83 @@
 //! Openings of small stores and beside long data.
 use crate::blocks::{Entry, block};
-use crate::forge::{Input, forge, le64, pilots, small, worked};
-use crate::list::{BEFORE, List, item};
-use crate::opening_expected::{self, packed_length};
+use crate::forge::{Input, forge, pilots, small, worked};
+use crate::list::{BEFORE, Kind, List};
+use crate::opening_expected::{packed, packed_length, plain};
 use crate::rng::Rng;
 use oracle::compact::Index;
-use oracle::crc32::crc32;
 use std::collections::BTreeMap;
+use std::ops::Range;
 
-/// The CRC-32 of the sixteen numbers of the record behind an opening.
-fn record_crc(opened: &Result<Index, u64>) -> u64 {
-    let mut record = [BEFORE; 16];
-    if let Ok(index) = opened {
-        record = [0; 16];
-        record[..13].copy_from_slice(&index.record());
-    }
-    crc32(&le64(&record)).into()
+/// How many small stores are opened.
+const CASES: usize = 70;
+
+/// A store with the rooms for keys and for the packed form, and what both openings of it give.
+struct Case {
+    input: Input,
+    scratch: usize,
+    room: usize,
+    plain: Result<Index, u64>,
+    packed: Result<Index, u64>,
 }
 
-/// Scratch, output room; number and record of the plain opening; number, record, length and output of the packed one.
-fn answers(input: &Input, scratch: usize, room: usize) -> [u64; 8] {
-    let Input { section, data, list, .. } = input;
-    let plain = opening_expected::plain(section, data, list, scratch);
-    let packed = opening_expected::packed(section, data, list, scratch, room);
-    let number = |opened: &Result<Index, u64>| opened.as_ref().err().copied().unwrap_or(0);
-    let (mut length, mut output) = (BEFORE, vec![BEFORE as u8; room]);
-    if let Ok(index) = &packed {
-        length = index.bytes().len() as u64;
+fn number(opened: &Result<Index, u64>) -> u64 {
+    opened.as_ref().err().copied().unwrap_or(0)
+}
+
+/// The sixteen numbers of the record behind an opening.
+fn record(opened: &Result<Index, u64>) -> [u64; 16] {
+    let Ok(index) = opened else { return [BEFORE; 16] };
+    let mut record = [0; 16];
+    record[..13].copy_from_slice(&index.record());
+    record
+}
+
+impl Case {
+    fn new(input: Input, scratch: usize, room: usize) -> Self {
+        let Input { section, data, list, .. } = &input;
+        let plain = plain(section, data, list, scratch);
+        let packed = packed(section, data, list, scratch, room);
+        Case { input, scratch, room, plain, packed }
+    }
+
+    fn answers(&self) -> [u64; 2] {
+        [number(&self.plain), number(&self.packed)]
+    }
+
+    fn size(&self) -> usize {
+        self.input.section.len() + self.input.data.len() + 8 * self.input.list.len()
+    }
+
+    /// Length and output of the packed opening.
+    fn output(&self) -> (u64, Vec<u8>) {
+        let mut output = vec![BEFORE as u8; self.room];
+        let Ok(index) = &self.packed else { return (BEFORE, output) };
         output[..index.bytes().len()].copy_from_slice(index.bytes());
+        (index.bytes().len() as u64, output)
     }
-    let plain = [number(&plain), record_crc(&plain)];
-    let packed = [number(&packed), record_crc(&packed), length, crc32(&output).into()];
-    let asked = [scratch as u64, room as u64];
-    [&asked[..], &plain, &packed].concat().try_into().expect("eight numbers")
-}
 
-/// The section with `answers`; the data with the count of the list's numbers; then these numbers.
-fn open_case(input: &Input, scratch: usize, room: usize) -> (Vec<u8>, [u64; 2]) {
-    let answers = answers(input, scratch, room);
-    let mut case = item(&input.section, &answers);
-    case.extend(item(&input.data, &[input.list.len() as u64]));
-    case.extend(le64(&input.list));
-    (case, [answers[2], answers[4]])
+    /// A row without the zeros of the data, which lie at these places.
+    fn add(&self, list: &mut List, zeros: Range<usize>) {
+        let Input { section, data, list: blocks, .. } = &self.input;
+        let (length, output) = self.output();
+        let [plain, packed] = self.answers();
+        let row = [
+            &list.part(section)[..],
+            &list.part(&data[..zeros.start]),
+            &list.part(&data[zeros.end..]),
+            &[zeros.end as u64, data.len() as u64],
+            &[list.numbers(blocks), blocks.len() as u64, self.scratch as u64],
+            &[plain, list.numbers(&record(&self.plain))],
+            &[packed, list.numbers(&record(&self.packed)), length],
+            &list.part(&output),
+        ];
+        list.row(Kind::Open, &row.concat(), &self.answers());
+    }
+
+    fn add_whole(&self, list: &mut List) {
+        let end = self.input.data.len();
+        self.add(list, end..end);
+    }
 }
 
 /// Document 01's worked store; then of many stores the smallest of each answer, the second smallest, and so on.
@@ -51,41 +87,34 @@ pub fn open(rng: &mut Rng) -> List {
         let store = worked(prefix);
         let length = packed_length(&store.section);
         for room in [length - 1, length, store.section.len() + 3] {
-            let (case, answers) = open_case(&store, 4, room);
-            assert!(list.add(&case, &answers));
+            Case::new(store.clone(), 4, room).add_whole(&mut list);
         }
     }
     let pool = pool(rng);
-    for place in 0.. {
-        for (answers, cases) in &pool {
-            if cases.get(place).is_some_and(|case| !list.add(case, answers)) {
-                (1..24).filter(|&number| number != 14).for_each(|number| assert!(list.has(number), "{number} occurs"));
-                return list;
-            }
-        }
-    }
+    let by_place = (0..CASES).flat_map(|place| pool.values().filter_map(move |cases| cases.get(place)));
+    by_place.take(CASES - list.rows()).for_each(|case| case.add_whole(&mut list));
+    (1..24).filter(|&number| number != 14).for_each(|number| assert!(list.has(number), "{number} occurs"));
     list
 }
 
-/// The cases of small stores, by both answers and by length.
-fn pool(rng: &mut Rng) -> BTreeMap<[u64; 2], Vec<Vec<u8>>> {
-    let mut pool: BTreeMap<[u64; 2], Vec<Vec<u8>>> = BTreeMap::new();
+/// The cases of small stores, by both answers and by size.
+fn pool(rng: &mut Rng) -> BTreeMap<[u64; 2], Vec<Case>> {
+    let mut pool: BTreeMap<[u64; 2], Vec<Case>> = BTreeMap::new();
     let mut inputs: Vec<Input> = (0..1500).flat_map(|_| forge(rng)).collect();
     inputs.extend(small().iter().flat_map(pilots));
-    let is_small = |input: &&Input| input.section.len() + input.data.len() < 400 && input.longest_key <= 32;
-    for input in inputs.iter().filter(is_small) {
+    inputs.retain(|input| input.section.len() + input.data.len() < 400 && input.longest_key <= 32);
+    for input in inputs {
         let scratch = [2 * input.longest_key, 64].map(|scratch| scratch - scratch.min(rng.below(2)));
         let less = if rng.one_in(3) { input.section.len() / 8 } else { 0 };
-        let (case, answers) = open_case(input, scratch[rng.below(2)], input.section.len() - less);
-        pool.entry(answers).or_default().push(case);
+        let room = input.section.len() - less;
+        let case = Case::new(input, scratch[rng.below(2)], room);
+        pool.entry(case.answers()).or_default().push(case);
     }
-    pool.values_mut().for_each(|cases| cases.sort_by_key(Vec::len));
+    pool.values_mut().for_each(|cases| cases.sort_by_key(Case::size));
     pool
 }
 
-/// A key of zeros at the limit of 14 and beyond, alone and behind the worked store's block: the section with
-/// `answers`, the data's beginning with the count of zeros that follow, their end with the count of the list's
-/// numbers, then these numbers.
+/// A key of zeros at the limit of 14 and beyond, alone and behind the worked store's block.
 pub fn run(_: &mut Rng) -> List {
     let mut list = List::default();
     for before in [false, true] {
@@ -98,15 +127,7 @@ pub fn run(_: &mut Rng) -> List {
             let (start, long) = (input.data.len(), block(&[entry], 1));
             input.list.extend([start as u64, long.raw.len() as u64]);
             input.data.extend(long.raw);
-            let answers = answers(&input, 64, 200);
-            let (front, back) = (&input.data[..start + 21], &input.data[start + 21 + key..]);
-            let parts = [
-                item(&input.section, &answers),
-                item(front, &[key as u64]),
-                item(back, &[input.list.len() as u64]),
-                le64(&input.list),
-            ];
-            assert!(list.add(&parts.concat(), &[answers[2], answers[4]]));
+            Case::new(input, 64, 200).add(&mut list, start + 21..start + 21 + key);
         }
     }
     assert!(list.has(14));

@@ -1,8 +1,6 @@
-pub mod Entries
 pub mod Block
 pub mod Covers
 pub mod Pairs
 pub mod Stored
 pub mod Opening
 pub mod PackedOpening
-pub mod Examples

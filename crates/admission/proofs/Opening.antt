@@ -1,8 +1,8 @@
 -- A plain opening accepts exactly what the written rules admit.
 -- Assumes nothing.
-use mathlib.Core.Path.{_≡_, refl, ap, _∙_, subst, subst⁻¹}
+use mathlib.Core.Path.{_≡_, refl, ap, _∙_, subst}
 use mathlib.Core.Bool.{true}
-use mathlib.Core.List.{List, []}
+use mathlib.Core.List.{List}
 use Prim.Native.Nat.{ℕ, _+_, _*_, _<_}
 use native.Mathlib.Omega.{arith}
 use lib.ListN.{length}
@@ -11,8 +11,8 @@ use Rattle.num.specs.Number.{leAt}
 use Rattle.num.proofs.Choice.{both-true, second-either, if-first, if-true}
 use Rattle.num.proofs.Steps.{yes-each}
 use Rattle.sstable.specs.declared.Trailer.{Trailer}
-use Rattle.sstable.specs.declared.Trailer.the-variants.{Sound, UnknownType, ChecksumMismatch}
-use Rattle.sstable.specs.Trailer.{trailerOf, SoundTrailer}
+use Rattle.sstable.specs.declared.Trailer.the-variants.{Intact, UnknownType, ChecksumMismatch}
+use Rattle.sstable.specs.Trailer.{trailerOf, trailerNumber, SoundTrailer}
 use Rattle.sstable.proofs.TrailerLaws.{sound-trailer, trailer-asks}
 use Rattle.point.specs.Hash.{isDirect, directSlot}
 use Rattle.encoding.specs.Encoding.{headerLen}
@@ -22,11 +22,11 @@ use Rattle.header.specs.declared.HeaderRead.the-variants.{Accepted, Refused}
 use Rattle.header.specs.Facts.{Header}
 use Rattle.header.proofs.Headers.{header-facts, facts-header}
 use Rattle.arena.specs.declared.Cursor.{Cursor}
-use Rattle.opening.specs.Walk.{State, Store, Ended, ended, refused, pairsFrom}
-use Rattle.opening.specs.Open.{pilotInside, pilotsInside, startAt, endsTogether, prefixesCounted, endFor, storeOf, contentsOf, contentsFor, headerFor, checkedHeaderOf, openOf}
+use Rattle.num.specs.Answer.{Answer, given, refused}
+use Rattle.validate.specs.Walk.{Inputs, Progress}
+use Rattle.opening.specs.Open.{pilotInside, pilotsInside, startOf, PairsEnd, pairsFrom, endsTogether, prefixesCounted, endFor, inputsOf, contentsOf, contentsFor, trailedHeader, checkedHeaderOf, openOf}
 use Rattle.opening.proofs.Pilots.{pilots-each, pilot-slot}
-use Rattle.agreement.specs.Entries.{Progress, progressOf}
-use Rattle.agreement.specs.Agrees.{Agrees, startOf}
+use Rattle.agreement.specs.Agrees.{Agrees}
 use Rattle.agreement.proofs.Walk.{accepted-exactly}
 use Rattle.admission.specs.Blocks.{Covers, storeEntries}
 use Rattle.admission.specs.Admits.{PilotsInside, Admits, OpensExactly}
@@ -41,53 +41,49 @@ yes-pilot : (s : List ℕ) (o : Opened) (k : ℕ)
 unfolding pilotInside
 yes-pilot s o k h = second-either _ _ (λ d. lt-ltb _ _ (h (not-false _ d)))
 
--- the state before the first pair
-firstState : Opened → State
-firstState o = record { key = []; previous = []; cursor = startAt o }
-
-ends-data : (t : Store) (at : ℕ) (c : Cursor) → endsTogether t at c ≡ true → at ≡ length (t .backing)
+ends-data : (t : Inputs) (at : ℕ) (c : Cursor) → endsTogether t at c ≡ true → at ≡ length (t .backing)
 unfolding endsTogether
 ends-data t at c e = eqb-true _ _ (both-true _ _ e .0)
 
 -- pairs that end with questions 22 and 23 answered by yes
-record Finished (t : Store) (x : Ended) (p : Opened) : Type 0 where
-  at : ℕ
-  last : State
-  through : x ≡ ended at last
-  together : endsTogether t at (last .cursor) ≡ true
-  counted : prefixesCounted t (last .cursor) ≡ true
+record Finished (t : Inputs) (x : Answer PairsEnd) (p : Opened) : Type 0 where
+  last : PairsEnd
+  through : x ≡ given last
+  together : endsTogether t (last .at) (last .progress .cursor) ≡ true
+  counted : prefixesCounted t (last .progress .cursor) ≡ true
   same : t .opened ≡ p
 
-finished : (t : Store) (x : Ended) (p : Opened) → endFor t x ≡ Accepted p → Finished t x p
+finished : (t : Inputs) (x : Answer PairsEnd) (p : Opened) → endFor t x ≡ Accepted p → Finished t x p
 unfolding endFor
 finished t (refused n) p e = refused-accepted n p e
-finished t (ended at st) p e =
+finished t (given last) p e =
     let e₁ = if-first _ _ (Refused 22) (Accepted p) (λ d. refused-accepted 22 p d) e in
     let e₂ = if-first _ _ (Refused 23) (Accepted p) (λ d. refused-accepted 23 p d) (e₁ .1) in
-    record { at = at; last = st; through = refl; together = e₁ .0; counted = e₂ .0; same = cc (e₂ .1) }
+    record { last = last; through = refl; together = e₁ .0; counted = e₂ .0; same = cc (e₂ .1) }
 
-finish : (t : Store) (at : ℕ) (st : State) → endsTogether t at (st .cursor) ≡ true → prefixesCounted t (st .cursor) ≡ true
-    → endFor t (ended at st) ≡ Accepted (t .opened)
+finish : (t : Inputs) (x : PairsEnd) → endsTogether t (x .at) (x .progress .cursor) ≡ true → prefixesCounted t (x .progress .cursor) ≡ true
+    → endFor t (given x) ≡ Accepted (t .opened)
 unfolding endFor
-finish t at st e c = if-true _ _ _ e ∙ if-true _ _ _ c
+finish t x e c = if-true _ _ _ e ∙ if-true _ _ _ c
 
 -- questions 10 to 23 of a record: what they accept, and what they ask
 pub record Contents (s «data» blocks : List ℕ) (scratch : ℕ) (o : Opened) : Type 0 where
   pub pilots : PilotsInside s o
   pub covers : Covers «data» blocks
-  pub agrees : Agrees (storeOf s «data» scratch o) (storeEntries «data» blocks)
+  pub agrees : Agrees (inputsOf s «data» scratch o) (storeEntries «data» blocks)
 
 pub contents-asks : (s «data» blocks : List ℕ) (scratch : ℕ) (o p : Opened) → contentsOf s «data» blocks scratch o ≡ Accepted p
     → Contents s «data» blocks scratch o × (o ≡ p)
-unfolding contentsOf storeOf firstState startOf progressOf
+unfolding contentsOf inputsOf
 contents-asks s «data» blocks scratch o p e =
-    let t = storeOf s «data» scratch o in
+    let t = inputsOf s «data» scratch o in
     let e₁ = if-first _ _ (Refused 10) (Accepted p) (λ d. refused-accepted 10 p d) e in
     let e₂ = if-first _ _ (Refused 11) (Accepted p) (λ d. refused-accepted 11 p d) (e₁ .1) in
-    let f = finished t (pairsFrom t blocks 0 (firstState o)) p (e₂ .1) in
-    let d = ends-data t (f .at) (f .last .cursor) (f .together) in
-    let w = pairs-exactly t blocks (firstState o) (progressOf (f .last)) .0 (f .last, f .through ∙ ap (λ (n : ℕ). ended n (f .last)) d, refl) in
-    let g = accepted-exactly t (storeEntries «data» blocks) (f .at) .0 (progressOf (f .last), w .1, f .together, f .counted) in (
+    let f = finished t (pairsFrom t blocks 0 (startOf o)) p (e₂ .1) in
+    let q = f .last .progress in
+    let d = ends-data t (f .last .at) (q .cursor) (f .together) in
+    let w = pairs-exactly t blocks (startOf o) q .0 (f .through ∙ ap (λ (n : ℕ). given (record { at = n; progress = q })) d) in
+    let g = accepted-exactly t (storeEntries «data» blocks) (f .last .at) .0 (q, w .1, f .together, f .counted) in (
       record {
         pilots = record { direct = λ k h. pilot-slot s o k (pilots-each s o (e₁ .0) k h) };
         covers = w .0;
@@ -98,31 +94,29 @@ contents-asks s «data» blocks scratch o p e =
 
 pub asks-contents : (s «data» blocks : List ℕ) (scratch : ℕ) (o : Opened) → Contents s «data» blocks scratch o
     → contentsOf s «data» blocks scratch o ≡ Accepted o
-unfolding contentsOf pilotsInside storeOf firstState startOf progressOf
+unfolding contentsOf pilotsInside inputsOf
 asks-contents s «data» blocks scratch o c =
-    let t = storeOf s «data» scratch o in
+    let t = inputsOf s «data» scratch o in
     let g = accepted-exactly t (storeEntries «data» blocks) (length «data») .1 (refl, c .agrees) in
-    let w = pairs-exactly t blocks (firstState o) (g .0) .1 (c .covers, g .1) in
-    let same : w .0 .cursor ≡ g .0 .cursor = ap (λ (q : Progress). q .cursor) (w .2) in
+    let w = pairs-exactly t blocks (startOf o) (g .0) .1 (c .covers, g .1) in
     if-true _ _ _ (yes-each (pilotInside s o) (o .buckets) (λ k h. yes-pilot s o k (c .pilots .direct k h)))
     ∙ if-true _ _ _ (eq-eqb _ _ (c .covers .even))
-    ∙ ap (endFor t) (w .1)
-    ∙ finish t (length «data») (w .0) (subst⁻¹ (λ (x : Cursor). endsTogether t (length «data») x ≡ true) same (g .2))
-    (subst⁻¹ (λ (x : Cursor). prefixesCounted t x ≡ true) same (g .3))
+    ∙ ap (endFor t) w
+    ∙ finish t (record { at = length «data»; progress = g .0 }) (g .2) (g .3)
 
 -- questions 1 to 6, both ways
 pub checked-asks : (s : List ℕ) (o : Opened) → checkedHeaderOf s ≡ Accepted o → SoundTrailer s × Header s o
-unfolding checkedHeaderOf headerFor
+unfolding checkedHeaderOf trailedHeader trailerNumber
 checked-asks s o = go (trailerOf s) refl
   where
-    go : (r : Trailer) → trailerOf s ≡ r → headerFor s r ≡ Accepted o → SoundTrailer s × Header s o
+    go : (r : Trailer) → trailerOf s ≡ r → trailedHeader s r ≡ Accepted o → SoundTrailer s × Header s o
     go UnknownType q e = refused-accepted 1 o e
     go ChecksumMismatch q e = refused-accepted 2 o e
-    go Sound q e = (trailer-asks s q, header-facts s o e)
+    go Intact q e = (trailer-asks s q, header-facts s o e)
 
 pub asks-checked : (s : List ℕ) (o : Opened) → SoundTrailer s → Header s o → checkedHeaderOf s ≡ Accepted o
-unfolding checkedHeaderOf headerFor
-asks-checked s o t h = ap (headerFor s) (sound-trailer s t) ∙ facts-header s o h
+unfolding checkedHeaderOf trailedHeader
+asks-checked s o t h = ap (trailedHeader s) (sound-trailer s t) ∙ facts-header s o h
 
 open-asks : (s «data» blocks : List ℕ) (scratch : ℕ) (o : Opened) (h : HeaderRead) → checkedHeaderOf s ≡ h → contentsFor s «data» blocks scratch h ≡ Accepted o
     → Admits s «data» blocks scratch o

@@ -13,7 +13,9 @@ use Rattle.header.specs.declared.HeaderRead.{HeaderRead}
 use Rattle.header.specs.declared.HeaderRead.the-variants.{Accepted, Refused}
 use Rattle.header.specs.Header.{fitsPacked, packedRecord}
 use Rattle.opening.specs.Open.{contentsOf, checkedHeaderOf}
-use Rattle.packing.specs.Packing.{packedAs, refused, pilotAt, pilotPacks, pilotsPack, packedBytes, packedFor, packOf, packFor, openPackedOf}
+use Rattle.num.specs.Answer.{refused}
+use Rattle.packing.specs.Packing.{PackedForm, packedAs, pilotPacks, pilotsPack, packedFor, packOf, packFor, openPackedOf}
+use Rattle.packed.specs.Packed.{pilotAt, packedBytes}
 use Rattle.admission.specs.Admits.{PilotsPack, AdmitsPacked, PackedFrom, PacksExactly}
 use Rattle.admission.proofs.Opening.{contents-asks, asks-contents, checked-asks, asks-checked}
 
@@ -45,7 +47,8 @@ module _ (s «data» blocks : List ℕ) (scratch room : ℕ) where
   packed-asks o p bytes (Refused n) q e = refused-packed n p bytes e
   packed-asks o p bytes (Accepted x) q e =
       let c = contents-asks s «data» blocks scratch o x q in
-      (q ∙ ap (λ (y : Opened). Accepted y) (sym (c .1)), cc e, cc e)
+      let z : _≡_ {A = PackedForm} (record { opened = p; bytes = bytes }) (record { opened = packedRecord o; bytes = packedBytes s o }) = cc in
+      (q ∙ ap (λ (y : Opened). Accepted y) (sym (c .1)), ap (λ (x : PackedForm). x .opened) z, ap (λ (x : PackedForm). x .bytes) z)
 
   pack-asks : (o p : Opened) (bytes : List ℕ) → checkedHeaderOf s ≡ Accepted o → packOf s «data» blocks scratch room o ≡ packedAs p bytes → PackedFrom s «data» blocks scratch room p bytes
   unfolding packOf

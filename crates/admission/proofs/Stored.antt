@@ -14,7 +14,7 @@ use Rattle.block.specs.Verify.{entriesEndIn}
 use Rattle.block.specs.Walk.{Entry, noEntries, entryThen, walkAt, recordsOf}
 use Rattle.block.proofs.Step.{step-moved}
 use Rattle.block.proofs.Walk.{walk-ind, walk-inside, walk-bytes}
-use Rattle.opening.specs.Walk.{placed, valueOf}
+use Rattle.validate.specs.Walk.{placed, valueOf}
 use Rattle.admission.specs.Blocks.{offsetAt, lengthAt, pairEnd, blockAt, Covers, blockEntries, storeEntries}
 use Rattle.admission.proofs.Covers.{offset-next, block-next}
 

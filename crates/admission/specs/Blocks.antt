@@ -2,11 +2,12 @@
 use mathlib.Core.Path.{_≡_}
 use mathlib.Core.List.{List, [], _∷_, _++_, map}
 use Prim.Native.Nat.{ℕ, zero, suc, _+_, _*_, _/_, _%_, _<_, _≤_}
-use lib.ListN.{length, getD, take, drop}
+use lib.ListN.{length, getD}
 use Rattle.block.specs.declared.BlockMeta.{BlockMeta}
 use Rattle.block.specs.Verify.{SoundBlock}
 use Rattle.block.specs.Walk.{Entry, atEnd, recordsOf}
-use Rattle.opening.specs.Walk.{placed}
+use Rattle.validate.specs.Walk.{placed}
+use Rattle.opening.specs.Open.{blockBytes}
 
 -- the offset of pair i
 unfoldable pub offsetAt : List ℕ → ℕ → ℕ
@@ -27,7 +28,7 @@ pairStart blocks (suc i) = pairEnd blocks i
 
 -- the bytes of pair i
 unfoldable pub blockAt : List ℕ → List ℕ → ℕ → List ℕ
-blockAt «data» blocks i = take (lengthAt blocks i) (drop (offsetAt blocks i) «data»)
+blockAt «data» blocks i = blockBytes «data» (offsetAt blocks i) (lengthAt blocks i)
 
 -- the block list passes questions 11 to 13, and its pairs cover the data
 pub record Covers («data» blocks : List ℕ) : Type 0 where
@@ -44,7 +45,7 @@ pub record Covers («data» blocks : List ℕ) : Type 0 where
 
 -- the records of the block at an offset, their values' places counted in the data
 unfoldable pub blockEntries : List ℕ → ℕ → ℕ → List Entry
-blockEntries «data» offset len = map (placed offset) (recordsOf (take len (drop offset «data»)) .entries)
+blockEntries «data» offset len = map (placed offset) (recordsOf (blockBytes «data» offset len) .entries)
 
 -- the records of all blocks, one block behind the other
 unfoldable pub storeEntries : List ℕ → List ℕ → List Entry

@@ -15,11 +15,11 @@ use Rattle.num.proofs.Order.{lessThan-transitive, lessThan-different}
 use Rattle.num.proofs.Steps.{neighbours}
 use Rattle.block.specs.Walk.{Entry}
 use Rattle.point.specs.Hash.{hashOf}
-use Rattle.encoding.specs.Encoding.{keyHeaderOf, versionOf}
+use Rattle.encoding.specs.Encoding.{keyHeaderLenOf, versionLenOf}
 use Rattle.header.specs.declared.Opened.{Opened}
 use Rattle.arena.specs.Key.{keyHeaderAt, slotPlace}
-use Rattle.opening.specs.Walk.{Store}
-use Rattle.agreement.specs.Keys.{addressOf, headerOfKey, versionsOf, suffixPlace, anchorIndex, keyAt, firstVersion, versionPlace, versionSeq}
+use Rattle.validate.specs.Walk.{Inputs}
+use Rattle.agreement.specs.Keys.{addressOf, keyHeaderOf, versionCount, suffixPlace, anchorIndex, keyAt, firstVersion, versionPlace, versionSeq}
 use Rattle.agreement.specs.Agrees.{entryAt, SameVersion, Agrees}
 use Rattle.agreement.proofs.Indices.{anchor-le, address-next, address-le, version-before, version-of}
 
@@ -30,8 +30,8 @@ width-some s at zero h = absurd (not-suc-le-zero h)
 width-some s at (suc w) h = omega arith
 
 -- a key header that counts versions is at least a byte long
-header-some : (s : List ℕ) (o : Opened) (k : ℕ) → 0 < versionsOf s o k → 0 < keyHeaderOf (o .encoding)
-unfolding versionsOf headerOfKey keyHeaderAt keyHeaderOf
+header-some : (s : List ℕ) (o : Opened) (k : ℕ) → 0 < versionCount s o k → 0 < keyHeaderLenOf (o .encoding)
+unfolding versionCount keyHeaderOf keyHeaderAt keyHeaderLenOf
 header-some s o k h =
     let n = width-some s (o .arena + addressOf s o k + o .encoding .address + 2 * o .encoding .key) (o .encoding .count) h in omega arith
 
@@ -48,15 +48,15 @@ index-member [] r h = absurd (not-suc-le-zero h)
 index-member (x ∷ es) zero h = List·Memᴰ·head refl
 index-member (x ∷ es) (suc r) h = List·Memᴰ·tail (index-member es r (omega arith))
 
-module _ (t : Store) where
-  open Store t using (section as s, opened as o, end)
+module _ (t : Inputs) where
+  open Inputs t using (section as s, opened as o, end)
 
   -- record r of the list, and the version that it is
   pub record VersionOf (es : List Entry) (r : ℕ) : Type 0 where
     pub key : ℕ
     pub version : ℕ
     pub key-below : key < o .count
-    pub version-below : version < versionsOf s o key
+    pub version-below : version < versionCount s o key
     pub index : r ≡ firstVersion s o key + version
     pub same : SameVersion s o key version (entryAt es r)
 
@@ -99,19 +99,19 @@ module _ (t : Store) where
         (sym (a .slot-address k h) ∙ ap (λ (p : ℕ). leAt s p (o .encoding .address)) e ∙ a .slot-address m l)
 
     -- the sequences of a key fall
-    pub sequences-fall : (k i j : ℕ) → k < o .count → i < j → j < versionsOf s o k → versionSeq s o k j < versionSeq s o k i
+    pub sequences-fall : (k i j : ℕ) → k < o .count → i < j → j < versionCount s o k → versionSeq s o k j < versionSeq s o k i
     sequences-fall k i j h =
-        neighbours (λ (x y : ℕ). versionSeq s o k y < versionSeq s o k x) (versionsOf s o k) (λ x y z p q. omega arith) (λ x l. a .falling k x h l) i j
+        neighbours (λ (x y : ℕ). versionSeq s o k y < versionSeq s o k x) (versionCount s o k) (λ x y z p q. omega arith) (λ x l. a .falling k x h l) i j
 
     -- ---- places: the key header, the suffix and the versions of a key lie in the arena by question 16
 
     -- the stored anchor is the address of the anchor's suffix
-    pub anchor-place : (k : ℕ) → k < o .count → o .arena + headerOfKey s o k .anchor ≡ suffixPlace s o (anchorIndex k)
+    pub anchor-place : (k : ℕ) → k < o .count → o .arena + keyHeaderOf s o k .anchor ≡ suffixPlace s o (anchorIndex k)
     unfolding suffixPlace
     anchor-place k h = let e = a .keys k h .anchor in omega arith
 
     -- what a key shares with its anchor lies in the arena
-    pub shared-inside : (k : ℕ) → k < o .count → suffixPlace s o (anchorIndex k) + headerOfKey s o k .shared ≤ end
+    pub shared-inside : (k : ℕ) → k < o .count → suffixPlace s o (anchorIndex k) + keyHeaderOf s o k .shared ≤ end
     shared-inside k h =
         let l = anchor-le k in
         let n : anchorIndex k < o .count = omega arith in
@@ -120,28 +120,28 @@ module _ (t : Store) where
         omega arith
 
     -- and so does each version
-    pub version-inside : (k j : ℕ) → k < o .count → j < versionsOf s o k → versionPlace s o k j + versionOf (o .encoding) ≤ end
+    pub version-inside : (k j : ℕ) → k < o .count → j < versionCount s o k → versionPlace s o k j + versionLenOf (o .encoding) ≤ end
     unfolding versionPlace
     version-inside k j h l =
         let v = a .keys k h .versions-inside in
-        let m = mul-le-mul-right (versionOf (o .encoding)) l in
+        let m = mul-le-mul-right (versionLenOf (o .encoding)) l in
         omega arith
 
     -- a key is as long as its two lengths say, in a section that reaches to the arena's end
-    pub key-length : (k : ℕ) → k < o .count → end ≤ length s → length (keyAt s o k) ≡ headerOfKey s o k .shared + headerOfKey s o k .«suffix_len»
+    pub key-length : (k : ℕ) → k < o .count → end ≤ length s → length (keyAt s o k) ≡ keyHeaderOf s o k .shared + keyHeaderOf s o k .«suffix_len»
     unfolding keyAt
     key-length k h l =
         let p = shared-inside k h in
         let q = a .keys k h .suffix-inside in
-        let x = part-length s (suffixPlace s o (anchorIndex k)) (headerOfKey s o k .shared) (omega arith) in
-        let y = part-length s (suffixPlace s o k) (headerOfKey s o k .«suffix_len») (omega arith) in
-        let z = length-append (take (headerOfKey s o k .shared) (drop (suffixPlace s o (anchorIndex k)) s)) (take (headerOfKey s o k .«suffix_len») (drop (suffixPlace s o k) s)) in
+        let x = part-length s (suffixPlace s o (anchorIndex k)) (keyHeaderOf s o k .shared) (omega arith) in
+        let y = part-length s (suffixPlace s o k) (keyHeaderOf s o k .«suffix_len») (omega arith) in
+        let z = length-append (take (keyHeaderOf s o k .shared) (drop (suffixPlace s o (anchorIndex k)) s)) (take (keyHeaderOf s o k .«suffix_len») (drop (suffixPlace s o k) s)) in
         omega arith
 
     -- ---- records
 
     -- every version of a key is a record of the list
-    pub version-listed : (k j : ℕ) → k < o .count → j < versionsOf s o k → firstVersion s o k + j < length es
+    pub version-listed : (k j : ℕ) → k < o .count → j < versionCount s o k → firstVersion s o k + j < length es
     version-listed k j h l =
         let n = version-before s o k j (o .count) l h in
         let e = a .records-end in

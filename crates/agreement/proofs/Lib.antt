@@ -1,4 +1,3 @@
-pub mod Examples
 pub mod Indices
 pub mod Laws
 pub mod Progress

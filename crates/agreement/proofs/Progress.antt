@@ -16,12 +16,11 @@ use Rattle.block.specs.Walk.{Entry}
 use Rattle.arena.specs.declared.Cursor.{Cursor}
 use Rattle.arena.specs.declared.Visited.{Visited}
 use Rattle.arena.specs.declared.Visited.the-variants as visited
-use Rattle.arena.specs.Version.{visitOf}
-use Rattle.opening.specs.Walk.{Store, valueOf}
-use Rattle.opening.specs.Open.{startAt, endsTogether, prefixesCounted}
-use Rattle.agreement.specs.Entries.{Progress, Reached, reached, refused, progressFor, entryAsked, entriesFrom}
-use Rattle.agreement.specs.Keys.{addressOf, versionsOf, firstVersion, prefixCount}
-use Rattle.agreement.specs.Agrees.{startOf}
+use Rattle.versions.specs.Version.{visitOf}
+use Rattle.num.specs.Answer.{Answer, given, refused}
+use Rattle.validate.specs.Walk.{Inputs, valueOf, Progress, progressFor, entryAsked}
+use Rattle.opening.specs.Open.{startAt, startOf, endsTogether, prefixesCounted}
+use Rattle.agreement.specs.Keys.{addressOf, versionCount, firstVersion, prefixCount}
 use Rattle.agreement.proofs.Indices.{first-version-next}
 use Rattle.agreement.proofs.Visit.{Before, Within, Counted, within-last}
 use Rattle.num.specs.Choice.{if_then_else_}
@@ -30,17 +29,17 @@ use Rattle.num.specs.Choice.{if_then_else_}
 abbrev pub behind : Progress → Entry → Cursor → Progress
 behind p e d = record { previous = if eqb (p .cursor .remaining) 0 then e .key else p .previous; cursor = d }
 
-progress-from : (p q : Progress) (e : Entry) (v : Visited) → progressFor p e v ≡ reached q → (d : Cursor) × (v ≡ visited.Went d) × (behind p e d ≡ q)
+progress-from : (p q : Progress) (e : Entry) (v : Visited) → progressFor p e v ≡ given q → (d : Cursor) × (v ≡ visited.Went d) × (behind p e d ≡ q)
 unfolding progressFor
 progress-from p q e (visited.Went d) r = (d, refl, cc)
 progress-from p q e (visited.Refused n) r = absurd (let z : _≡_ {A = ℕ} 0 1 = cc in omega arith)
 
--- an answer that was reached passed its test
-reached-first : (b : Bool) (x : Reached) (n : ℕ) (q : Progress) → (if b then x else refused n) ≡ reached q → (b ≡ true) × (x ≡ reached q)
-reached-first b x n q e = if-first b x (refused n) (reached q) (λ r. let z : _≡_ {A = ℕ} 0 1 = cc in omega arith) e
+-- an answer that was given passed its test
+reached-first : (b : Bool) (x : Answer Progress) (n : ℕ) (q : Progress) → (if b then x else refused n) ≡ given q → (b ≡ true) × (x ≡ given q)
+reached-first b x n q e = if-first b x (refused n) (given q) (λ r. let z : _≡_ {A = ℕ} 0 1 = cc in omega arith) e
 
-module _ (t : Store) where
-  open Store t using (section as s, backing as «data», opened as o, end, half)
+module _ (t : Inputs) where
+  open Inputs t using (section as s, backing as «data», opened as o, end, half)
 
   -- ---- one record
 
@@ -51,7 +50,7 @@ module _ (t : Store) where
     pub scratch : length (e .key) ≤ half
 
   -- a record passes if it is within the limits and its visit goes on
-  pub record-passed : (p q : Progress) (e : Entry) → entryAsked t p e ≡ reached q
+  pub record-passed : (p q : Progress) (e : Entry) → entryAsked t p e ≡ given q
       → Limited e × ((d : Cursor) × (visitOf s o end (p .cursor) (p .previous) e (valueOf «data» e) ≡ visited.Went d) × (behind p e d ≡ q))
   unfolding entryAsked withinLimits
   record-passed p q e r =
@@ -61,46 +60,27 @@ module _ (t : Store) where
       (record { key = leb-true _ _ (b .0); value = leb-true _ _ (b .1); scratch = leb-true _ _ (w₂ .0) }, progress-from p q e _ (w₂ .1))
 
   pub passed-record : (p : Progress) (e : Entry) (d : Cursor) → Limited e → visitOf s o end (p .cursor) (p .previous) e (valueOf «data» e) ≡ visited.Went d
-      → entryAsked t p e ≡ reached (behind p e d)
+      → entryAsked t p e ≡ given (behind p e d)
   unfolding entryAsked withinLimits progressFor
   passed-record p e d l v =
       if-true _ _ _ (true-both _ _ (le-leb _ _ (l .key)) (le-leb _ _ (l .value)))
       ∙ if-true _ _ _ (le-leb _ _ (l .scratch))
       ∙ ap (progressFor p e) v
 
-  -- what follows a record
-  follow : List Entry → Reached → Reached
-  follow es x = elim x [ reached q ↦ entriesFrom t q es | refused n ↦ refused n ]
-
-  -- the records pass if the first does and the others do behind it
-  pub entries-passed : (p q : Progress) (e : Entry) (es : List Entry) → entriesFrom t p (e ∷ es) ≡ reached q
-      → (x : Progress) × (entryAsked t p e ≡ reached x) × (entriesFrom t x es ≡ reached q)
-  unfolding entriesFrom follow
-  entries-passed p q e es r = go (entryAsked t p e) refl
-    where
-      go : (x : Reached) → entryAsked t p e ≡ x → (y : Progress) × (entryAsked t p e ≡ reached y) × (entriesFrom t y es ≡ reached q)
-      go (reached y) f = (y, f, sym (ap (follow es) f) ∙ r)
-      go (refused n) f = absurd (let g : refused n ≡ reached q = sym (ap (follow es) f) ∙ r in let z : _≡_ {A = ℕ} 0 1 = cc in omega arith)
-
-  pub passed-entries : (p x q : Progress) (e : Entry) (es : List Entry) → entryAsked t p e ≡ reached x → entriesFrom t x es ≡ reached q
-      → entriesFrom t p (e ∷ es) ≡ reached q
-  unfolding entriesFrom follow
-  passed-entries p x q e es f r = ap (follow es) f ∙ r
-
   -- ---- where the walk stands
 
   -- k keys were entered and r records visited: the cursor stands before key k, or before version j of the last key entered
   pub data Stands (k r : ℕ) (c : Cursor) : Type 0 where
     before : Before s o k c → r ≡ firstVersion s o k → Stands k r c
-    within : (i j : ℕ) → k ≡ suc i → Within s o i j c → j < versionsOf s o i → r ≡ firstVersion s o i + j → Stands k r c
+    within : (i j : ℕ) → k ≡ suc i → Within s o i j c → j < versionCount s o i → r ≡ firstVersion s o i + j → Stands k r c
 
   -- behind version j of key i it stands before another version, or before the next key
   pub settled : (i j r : ℕ) (c : Cursor) → Within s o i (suc j) c → r ≡ firstVersion s o i + j → Stands (suc i) (suc r) c
-  settled i j r c w e = go (leb (versionsOf s o i) (suc j)) refl
+  settled i j r c w e = go (leb (versionCount s o i) (suc j)) refl
     where
-      go : (b : Bool) → leb (versionsOf s o i) (suc j) ≡ b → Stands (suc i) (suc r) c
+      go : (b : Bool) → leb (versionCount s o i) (suc j) ≡ b → Stands (suc i) (suc r) c
       go true h =
-          let l : versionsOf s o i ≤ suc j = leb-true _ _ h in
+          let l : versionCount s o i ≤ suc j = leb-true _ _ h in
           let n = first-version-next s o i in
           let m = w .remaining in
           before (within-last s o i (suc j) c w l) (omega arith)

@@ -17,15 +17,15 @@ use Rattle.num.proofs.Order.{equalBytes-true, equalBytes-same}
 use Rattle.crc32.specs.V42.{crcOf}
 use Rattle.block.specs.Walk.{Entry}
 use Rattle.point.specs.Hash.{hashOf, fingerprintOf}
-use Rattle.encoding.specs.Encoding.{scanHeaderLen, group, keyHeaderOf, versionOf}
+use Rattle.encoding.specs.Encoding.{scanHeaderLen, group, keyHeaderLenOf, versionLenOf}
 use Rattle.header.specs.declared.Opened.{Opened}
 use Rattle.arena.specs.declared.Cursor.{Cursor}
 use Rattle.arena.specs.declared.Visited.{Visited}
 use Rattle.arena.specs.declared.Visited.the-variants.{Went, Refused}
 use Rattle.arena.specs.Key.{keyHeaderAt, atAnchor, suffixAddress, anchorOf, anchorLenOf, keyInside, keyFits, keyRises, scanNames, slotPlace, slotNames, prefixChanges, entered, keyFor, keyOf}
-use Rattle.arena.specs.Version.{storedKey, storedSeq, storedValue, kindIn, lengthIn, storedOffset, storedChecksum, versionAgrees, checksumAgrees, advanced, versionFor, visitOf}
-use Rattle.arena.proofs.Questions.{sameKind-true, sameKind-same}
-use Rattle.agreement.specs.Keys.{addressOf, headerOfKey, versionsOf, suffixPlace, anchorIndex, keyAt, versionPlace, versionSeq, versionKind, versionLength, versionOffset, versionChecksum, prefixAt, prefixNew, prefixCount}
+use Rattle.versions.specs.Version.{storedKey, storedSeq, storedValue, kindIn, lengthIn, storedOffset, storedChecksum, versionAgrees, checksumAgrees, advanced, versionFor, visitOf}
+use Rattle.versions.proofs.Agreeing.{sameKind-true, sameKind-same}
+use Rattle.agreement.specs.Keys.{addressOf, keyHeaderOf, versionCount, suffixPlace, anchorIndex, keyAt, versionPlace, versionSeq, versionKind, versionLength, versionOffset, versionChecksum, prefixAt, prefixNew, prefixCount}
 use Rattle.agreement.specs.Agrees.{KeyStands, SameVersion}
 use Rattle.agreement.proofs.Indices.{anchor-self, anchor-before, versions-behind}
 
@@ -34,19 +34,19 @@ pub record Before (s : List ℕ) (o : Opened) (k : ℕ) (c : Cursor) : Type 0 wh
   pub pos : c .pos ≡ o .arena + addressOf s o k
   pub groups : c .groups ≡ k
   pub remaining : c .remaining ≡ 0
-  pub anchor : (k % group ≡ 0 → ⊥) → c .anchor ≡ addressOf s o (anchorIndex k) + keyHeaderOf (o .encoding)
-  pub anchor-len : (k % group ≡ 0 → ⊥) → c .«anchor_len» ≡ headerOfKey s o (anchorIndex k) .«suffix_len»
+  pub anchor : (k % group ≡ 0 → ⊥) → c .anchor ≡ addressOf s o (anchorIndex k) + keyHeaderLenOf (o .encoding)
+  pub anchor-len : (k % group ≡ 0 → ⊥) → c .«anchor_len» ≡ keyHeaderOf s o (anchorIndex k) .«suffix_len»
 
 -- the cursor stands before version j of key k, whose key header it has passed
 pub record Within (s : List ℕ) (o : Opened) (k j : ℕ) (c : Cursor) : Type 0 where
   pub pos : c .pos ≡ versionPlace s o k j
   pub groups : c .groups ≡ suc k
-  pub remaining : c .remaining + j ≡ versionsOf s o k
-  pub anchor : c .anchor ≡ addressOf s o (anchorIndex k) + keyHeaderOf (o .encoding)
-  pub anchor-len : c .«anchor_len» ≡ headerOfKey s o (anchorIndex k) .«suffix_len»
-  pub shared : c .shared ≡ headerOfKey s o k .shared
+  pub remaining : c .remaining + j ≡ versionCount s o k
+  pub anchor : c .anchor ≡ addressOf s o (anchorIndex k) + keyHeaderLenOf (o .encoding)
+  pub anchor-len : c .«anchor_len» ≡ keyHeaderOf s o (anchorIndex k) .«suffix_len»
+  pub shared : c .shared ≡ keyHeaderOf s o k .shared
   pub suffix : c .suffix ≡ suffixPlace s o k
-  pub suffix-len : c .«suffix_len» ≡ headerOfKey s o k .«suffix_len»
+  pub suffix-len : c .«suffix_len» ≡ keyHeaderOf s o k .«suffix_len»
   pub last-seq : (i : ℕ) → j ≡ suc i → c .«last_seq» ≡ versionSeq s o k i
   pub first : c .first ≡ eqb j 0
 
@@ -67,30 +67,30 @@ pub record KeyAsked (s : List ℕ) (o : Opened) (end k : ℕ) (key : List ℕ) :
 -- ---- the key header
 
 module _ (s : List ℕ) (o : Opened) (k : ℕ) (c : Cursor) (b : Before s o k c) where
-  header-is : keyHeaderAt s (o .encoding) (c .pos) ≡ headerOfKey s o k
-  unfolding headerOfKey
+  header-is : keyHeaderAt s (o .encoding) (c .pos) ≡ keyHeaderOf s o k
+  unfolding keyHeaderOf
   header-is = ap (keyHeaderAt s (o .encoding)) (b .pos)
 
-  anchor-is : anchorOf o c ≡ addressOf s o (anchorIndex k) + keyHeaderOf (o .encoding)
+  anchor-is : anchorOf o c ≡ addressOf s o (anchorIndex k) + keyHeaderLenOf (o .encoding)
   unfolding anchorOf atAnchor suffixAddress
   anchor-is =
       let p = b .pos in
       let g = b .groups in
-      if-case (λ (x : ℕ). x ≡ addressOf s o (anchorIndex k) + keyHeaderOf (o .encoding)) (eqb (c .groups % group) 0) (c .pos + keyHeaderOf (o .encoding) - o .arena) (c .anchor)
+      if-case (λ (x : ℕ). x ≡ addressOf s o (anchorIndex k) + keyHeaderLenOf (o .encoding)) (eqb (c .groups % group) 0) (c .pos + keyHeaderLenOf (o .encoding) - o .arena) (c .anchor)
       (λ e. let z = eqb-true (c .groups % group) 0 e in let a = ap (addressOf s o) (anchor-self k (omega arith)) in omega arith)
       (λ e. let z = eqb-false (c .groups % group) 0 e in b .anchor (λ y. z (omega arith)))
 
-  anchor-len-is : anchorLenOf c (headerOfKey s o k) ≡ headerOfKey s o (anchorIndex k) .«suffix_len»
+  anchor-len-is : anchorLenOf c (keyHeaderOf s o k) ≡ keyHeaderOf s o (anchorIndex k) .«suffix_len»
   unfolding anchorLenOf atAnchor
   anchor-len-is =
       let g = b .groups in
-      if-case (λ (x : ℕ). x ≡ headerOfKey s o (anchorIndex k) .«suffix_len») (eqb (c .groups % group) 0) (headerOfKey s o k .«suffix_len») (c .«anchor_len»)
-      (λ e. let z = eqb-true (c .groups % group) 0 e in sym (ap (λ (i : ℕ). headerOfKey s o i .«suffix_len») (anchor-self k (omega arith))))
+      if-case (λ (x : ℕ). x ≡ keyHeaderOf s o (anchorIndex k) .«suffix_len») (eqb (c .groups % group) 0) (keyHeaderOf s o k .«suffix_len») (c .«anchor_len»)
+      (λ e. let z = eqb-true (c .groups % group) 0 e in sym (ap (λ (i : ℕ). keyHeaderOf s o i .«suffix_len») (anchor-self k (omega arith))))
       (λ e. let z = eqb-false (c .groups % group) 0 e in b .anchor-len (λ y. z (omega arith)))
 
   module _ (end : ℕ) where
-    stands : keyInside o end c ≡ true → keyFits o end c (headerOfKey s o k) ≡ true → (k < o .count) × KeyStands s o end k
-    unfolding keyInside keyFits suffixPlace versionsOf atAnchor
+    stands : keyInside o end c ≡ true → keyFits o end c (keyHeaderOf s o k) ≡ true → (k < o .count) × KeyStands s o end k
+    unfolding keyInside keyFits suffixPlace versionCount atAnchor
     stands i f =
         let p = b .pos in
         let g = b .groups in
@@ -104,10 +104,10 @@ module _ (s : List ℕ) (o : Opened) (k : ℕ) (c : Cursor) (b : Before s o k c)
         let b₅ = both-true _ _ (b₄ .1) in
         let b₆ = both-true _ _ (b₅ .1) in
         let n : c .groups < o .count = ltb-true _ _ (b₀ .0) in
-        let h : c .pos + keyHeaderOf (o .encoding) ≤ end = leb-true _ _ (b₀ .1) in
-        let r : headerOfKey s o k .shared ≤ anchorLenOf c (headerOfKey s o k) = leb-true _ _ (b₃ .0) in
-        let x : c .pos + keyHeaderOf (o .encoding) + headerOfKey s o k .«suffix_len» ≤ end = leb-true _ _ (b₄ .0) in
-        let v : c .pos + keyHeaderOf (o .encoding) + headerOfKey s o k .«suffix_len» + headerOfKey s o k .versions * versionOf (o .encoding) ≤ end = leb-true _ _ (b₆ .0) in (
+        let h : c .pos + keyHeaderLenOf (o .encoding) ≤ end = leb-true _ _ (b₀ .1) in
+        let r : keyHeaderOf s o k .shared ≤ anchorLenOf c (keyHeaderOf s o k) = leb-true _ _ (b₃ .0) in
+        let x : c .pos + keyHeaderLenOf (o .encoding) + keyHeaderOf s o k .«suffix_len» ≤ end = leb-true _ _ (b₄ .0) in
+        let v : c .pos + keyHeaderLenOf (o .encoding) + keyHeaderOf s o k .«suffix_len» + keyHeaderOf s o k .versions * versionLenOf (o .encoding) ≤ end = leb-true _ _ (b₆ .0) in (
           omega arith,
           record {
             header-inside = omega arith;
@@ -128,11 +128,11 @@ module _ (s : List ℕ) (o : Opened) (k : ℕ) (c : Cursor) (b : Before s o k c)
         let g = b .groups in
         let h = f .header-inside in
         let m : c .groups < o .count = omega arith in
-        let i : c .pos + keyHeaderOf (o .encoding) ≤ end = omega arith in
+        let i : c .pos + keyHeaderLenOf (o .encoding) ≤ end = omega arith in
         true-both _ _ (lt-ltb _ _ m) (le-leb _ _ i)
 
-    fits : KeyStands s o end k → keyFits o end c (headerOfKey s o k) ≡ true
-    unfolding keyFits suffixPlace versionsOf atAnchor
+    fits : KeyStands s o end k → keyFits o end c (keyHeaderOf s o k) ≡ true
+    unfolding keyFits suffixPlace versionCount atAnchor
     fits f =
         let p = b .pos in
         let g = b .groups in
@@ -140,9 +140,9 @@ module _ (s : List ℕ) (o : Opened) (k : ℕ) (c : Cursor) (b : Before s o k c)
         let h = f .suffix-inside in
         let w = f .versions-inside in
         let q = f .shared in
-        let r : headerOfKey s o k .shared ≤ anchorLenOf c (headerOfKey s o k) = omega arith in
-        let x : c .pos + keyHeaderOf (o .encoding) + headerOfKey s o k .«suffix_len» ≤ end = omega arith in
-        let v : c .pos + keyHeaderOf (o .encoding) + headerOfKey s o k .«suffix_len» + headerOfKey s o k .versions * versionOf (o .encoding) ≤ end = omega arith in
+        let r : keyHeaderOf s o k .shared ≤ anchorLenOf c (keyHeaderOf s o k) = omega arith in
+        let x : c .pos + keyHeaderLenOf (o .encoding) + keyHeaderOf s o k .«suffix_len» ≤ end = omega arith in
+        let v : c .pos + keyHeaderLenOf (o .encoding) + keyHeaderOf s o k .«suffix_len» + keyHeaderOf s o k .versions * versionLenOf (o .encoding) ≤ end = omega arith in
         true-both _ _ (second-either _ _ (λ e. let z = eqb-true (c .groups % group) 0 (not-false _ e) in eq-eqb _ _ (f .anchor-whole (omega arith))))
         (true-both _ _ (eq-eqb _ _ (f .anchor ∙ sym anchor-is))
         (true-both _ _ (le-leb _ _ r)
@@ -191,7 +191,7 @@ module _ (s : List ℕ) (o : Opened) (end k : ℕ) (c : Cursor) (last key : List
   scanning h = second-either _ _ (λ f. eq-eqb _ _ (scan-place ∙ h (eqb-false (o .scan) 0 f) ∙ sym address-is))
 
   key-asked : (d : Cursor) → keyOf s o end c last key ≡ Went d
-      → KeyAsked s o end k key × (entered o c (headerOfKey s o k) (prefixChanges s o c last key) ≡ d)
+      → KeyAsked s o end k key × (entered o c (keyHeaderOf s o k) (prefixChanges s o c last key) ≡ d)
   unfolding keyOf keyFor slotNames
   key-asked d e =
       let w₀ = went _ _ 16 d e in
@@ -212,7 +212,7 @@ module _ (s : List ℕ) (o : Opened) (end k : ℕ) (c : Cursor) (last key : List
         let q = w₄ .1 in cc,
       )
 
-  asked-key : KeyAsked s o end k key → keyOf s o end c last key ≡ Went (entered o c (headerOfKey s o k) (prefixChanges s o c last key))
+  asked-key : KeyAsked s o end k key → keyOf s o end c last key ≡ Went (entered o c (keyHeaderOf s o k) (prefixChanges s o c last key))
   unfolding keyOf keyFor slotNames
   asked-key a =
       if-true _ _ _ (inside s o k c b end (a .below) (a .stands))
@@ -224,8 +224,8 @@ module _ (s : List ℕ) (o : Opened) (end k : ℕ) (c : Cursor) (last key : List
 
 -- ---- the cursor behind a key header, behind a version, and behind the last one
 
-entered-within : (s : List ℕ) (o : Opened) (k : ℕ) (c : Cursor) → Before s o k c → (changes : Bool) → Within s o k 0 (entered o c (headerOfKey s o k) changes)
-unfolding entered versionPlace suffixPlace versionsOf
+entered-within : (s : List ℕ) (o : Opened) (k : ℕ) (c : Cursor) → Before s o k c → (changes : Bool) → Within s o k 0 (entered o c (keyHeaderOf s o k) changes)
+unfolding entered versionPlace suffixPlace versionCount
 entered-within s o k c b changes =
     let p = b .pos in
     let g = b .groups in
@@ -249,7 +249,7 @@ changes-is s o c last key zero g p e n = rw (ne-eqb (o .scan) 0 n, eq-eqb (c .gr
 changes-is s o c last key (suc i) g p e n = rw (ne-eqb (o .scan) 0 n, ne-eqb (c .groups) 0 (λ z. omega arith), e, p i refl)
 
 entered-counted : (s : List ℕ) (o : Opened) (k : ℕ) (c : Cursor) (last key : List ℕ) → Before s o k c → Counted s o k last c → key ≡ keyAt s o k
-    → Counted s o (suc k) key (entered o c (headerOfKey s o k) (prefixChanges s o c last key))
+    → Counted s o (suc k) key (entered o c (keyHeaderOf s o k) (prefixChanges s o c last key))
 unfolding entered prefixCount
 entered-counted s o k c last key b m e =
     record {
@@ -258,7 +258,7 @@ entered-counted s o k c last key b m e =
           ap₂ (λ (t : Bool) (x : ℕ). if t then x + 1 else x) (changes-is s o c last key k (b .groups) (m .previous) e n) (m .prefixes n);
     }
 
-advanced-within : (s : List ℕ) (o : Opened) (k j : ℕ) (c : Cursor) (seq : ℕ) → Within s o k j c → j < versionsOf s o k → seq ≡ versionSeq s o k j
+advanced-within : (s : List ℕ) (o : Opened) (k j : ℕ) (c : Cursor) (seq : ℕ) → Within s o k j c → j < versionCount s o k → seq ≡ versionSeq s o k j
     → Within s o k (suc j) (advanced o c seq)
 unfolding advanced versionPlace
 advanced-within s o k j c seq w h e =
@@ -282,16 +282,16 @@ unfolding advanced
 advanced-counted s o k last c seq m = record { previous = m .previous; prefixes = m .prefixes }
 
 -- behind the last version of a key the cursor stands before the next key
-pub within-last : (s : List ℕ) (o : Opened) (k j : ℕ) (c : Cursor) → Within s o k j c → versionsOf s o k ≤ j → Before s o (suc k) c
+pub within-last : (s : List ℕ) (o : Opened) (k j : ℕ) (c : Cursor) → Within s o k j c → versionCount s o k ≤ j → Before s o (suc k) c
 within-last s o k j c w h =
     let r = w .remaining in
-    let e : j ≡ versionsOf s o k = omega arith in
+    let e : j ≡ versionCount s o k = omega arith in
     record {
       pos = w .pos ∙ ap (versionPlace s o k) e ∙ versions-behind s o k;
       groups = w .groups;
       remaining = omega arith;
-      anchor = λ n. w .anchor ∙ ap (λ (i : ℕ). addressOf s o i + keyHeaderOf (o .encoding)) (sym (anchor-before k n));
-      anchor-len = λ n. w .anchor-len ∙ ap (λ (i : ℕ). headerOfKey s o i .«suffix_len») (sym (anchor-before k n));
+      anchor = λ n. w .anchor ∙ ap (λ (i : ℕ). addressOf s o i + keyHeaderLenOf (o .encoding)) (sym (anchor-before k n));
+      anchor-len = λ n. w .anchor-len ∙ ap (λ (i : ℕ). keyHeaderOf s o i .«suffix_len») (sym (anchor-before k n));
     }
 
 -- ---- the version
@@ -307,7 +307,7 @@ module _ (s : List ℕ) (o : Opened) (k j : ℕ) (c : Cursor) (w : Within s o k 
   unfolding storedKey keyAt suffixPlace
   key-is =
       let a = w .anchor in
-      let x : o .arena + c .anchor ≡ o .arena + addressOf s o (anchorIndex k) + keyHeaderOf (o .encoding) = omega arith in
+      let x : o .arena + c .anchor ≡ o .arena + addressOf s o (anchorIndex k) + keyHeaderLenOf (o .encoding) = omega arith in
       λ i. take (w .shared i) (drop (x i) s) ++ take (w .suffix-len i) (drop (w .suffix i) s)
 
   asked-version : (e : Entry) (value : List ℕ) → versionAgrees s o c e ≡ true → checksumAgrees s o c value ≡ true → VersionAsked s o k j e value
@@ -380,7 +380,7 @@ went-from s o d e value (Refused n) t = absurd (let z : _≡_ {A = ℕ} 0 1 = cc
 
 -- the cursor behind the first record of a key
 unfoldable pub behindFirst : List ℕ → Opened → ℕ → Cursor → List ℕ → Entry → Cursor
-behindFirst s o k c last e = advanced o (entered o c (headerOfKey s o k) (prefixChanges s o c last (e .key))) (e .seq)
+behindFirst s o k c last e = advanced o (entered o c (keyHeaderOf s o k) (prefixChanges s o c last (e .key))) (e .seq)
 
 module _ (s : List ℕ) (o : Opened) (end k : ℕ) (c : Cursor) (last : List ℕ) (e : Entry) (value : List ℕ) (b : Before s o k c) (m : Counted s o k last c) where
   -- a visit of a key's first record that goes on: questions 16 to 21 hold
@@ -388,7 +388,7 @@ module _ (s : List ℕ) (o : Opened) (end k : ℕ) (c : Cursor) (last : List ℕ
       → KeyAsked s o end k (e .key) × VersionAsked s o k 0 e value × (behindFirst s o k c last e ≡ d)
   unfolding visitOf behindFirst
   key-visit d t =
-      let x = entered o c (headerOfKey s o k) (prefixChanges s o c last (e .key)) in
+      let x = entered o c (keyHeaderOf s o k) (prefixChanges s o c last (e .key)) in
       let n = if-true (eqb (c .remaining) 0) (keyOf s o end c last (e .key)) (Went c) (eq-eqb (c .remaining) 0 (b .remaining)) in
       let f = went-from s o d e value (keyOf s o end c last (e .key)) (ap (versionFor s o e value) (sym n) ∙ t) in
       let a = key-asked s o end k c last (e .key) b m (f .0) (f .1) in
@@ -405,7 +405,7 @@ module _ (s : List ℕ) (o : Opened) (end k : ℕ) (c : Cursor) (last : List ℕ
       ∙ went-version s o k 0 _ e value (entered-within s o k c b (prefixChanges s o c last (e .key))) v
 
   -- then the cursor stands before the key's second version, and one more key is counted
-  pub key-behind : 0 < versionsOf s o k → VersionAsked s o k 0 e value
+  pub key-behind : 0 < versionCount s o k → VersionAsked s o k 0 e value
       → Within s o k 1 (behindFirst s o k c last e) × Counted s o (suc k) (e .key) (behindFirst s o k c last e)
   unfolding behindFirst
   key-behind h v = (
@@ -413,7 +413,7 @@ module _ (s : List ℕ) (o : Opened) (end k : ℕ) (c : Cursor) (last : List ℕ
     advanced-counted s o (suc k) (e .key) _ (e .seq) (entered-counted s o k c last (e .key) b m (v .same .key)),
   )
 
-module _ (s : List ℕ) (o : Opened) (end k j : ℕ) (c : Cursor) (last : List ℕ) (e : Entry) (value : List ℕ) (w : Within s o k j c) (h : j < versionsOf s o k) where
+module _ (s : List ℕ) (o : Opened) (end k j : ℕ) (c : Cursor) (last : List ℕ) (e : Entry) (value : List ℕ) (w : Within s o k j c) (h : j < versionCount s o k) where
   stays : (if eqb (c .remaining) 0 then keyOf s o end c last (e .key) else Went c) ≡ Went c
   stays = let r = w .remaining in if-false (eqb (c .remaining) 0) (keyOf s o end c last (e .key)) (Went c) (ne-eqb (c .remaining) 0 (λ z. omega arith))
 

@@ -17,15 +17,17 @@ use Rattle.num.proofs.Steps.{first-or-later}
 use Rattle.block.specs.Walk.{Entry}
 use Rattle.arena.specs.declared.Cursor.{Cursor}
 use Rattle.arena.specs.declared.Visited.the-variants.{Went}
-use Rattle.arena.specs.Version.{advanced, visitOf}
-use Rattle.opening.specs.Walk.{Store, valueOf}
-use Rattle.opening.specs.Open.{endsTogether, prefixesCounted}
-use Rattle.agreement.specs.Entries.{Progress, reached, entryAsked, entriesFrom}
-use Rattle.agreement.specs.Keys.{addressOf, versionsOf, keyAt, firstVersion, versionSeq, prefixCount}
-use Rattle.agreement.specs.Agrees.{noEntry, entryAt, Agrees, startOf, Walked}
+use Rattle.versions.specs.Version.{advanced, visitOf}
+use Rattle.num.specs.Answer.{given}
+use Rattle.validate.specs.Walk.{Inputs, valueOf, Progress, entryAsked, entriesFrom}
+use Rattle.opening.specs.Open.{startOf, endsTogether, prefixesCounted}
+use Rattle.validate.proofs.Entries.{entries-passed, passed-entries}
+use Rattle.agreement.specs.Keys.{addressOf, versionCount, keyAt, firstVersion, versionSeq, prefixCount}
+use Rattle.agreement.specs.Agrees.{noEntry, entryAt, Agrees}
+use Rattle.agreement.specs.Internal.{Walked}
 use Rattle.agreement.proofs.Indices.{version-before, same-version}
 use Rattle.agreement.proofs.Visit.{Before, Within, Counted, KeyAsked, VersionAsked, behindFirst, key-visit, visit-key, key-behind, version-visit, visit-version, version-behind}
-use Rattle.agreement.proofs.Progress.{behind, Limited, record-passed, passed-record, entries-passed, passed-entries, Stands, before, within, settled, start-stands, start-counted, ends-exactly, prefixes-exactly}
+use Rattle.agreement.proofs.Progress.{behind, Limited, record-passed, passed-record, Stands, before, within, settled, start-stands, start-counted, ends-exactly, prefixes-exactly}
 
 -- the first of the records that are left is the one of that index
 entry-is : (es rest : List Entry) (r : ℕ) (e : Entry) → drop r es ≡ e ∷ rest → r < length es → (e ≡ entryAt es r) × (drop (suc r) es ≡ rest)
@@ -38,8 +40,8 @@ cursor-of u = ap (λ (x : Progress). x .cursor) u
 previous-of : {p q : Progress} → p ≡ q → p .previous ≡ q .previous
 previous-of u = ap (λ (x : Progress). x .previous) u
 
-module _ (t : Store) (es : List Entry) where
-  open Store t using (section as s, backing as «data», opened as o, end)
+module _ (t : Inputs) (es : List Entry) where
+  open Inputs t using (section as s, backing as «data», opened as o, end)
 
   -- the end of the walk, as questions 22 and 23 ask it
   record Ended (q : Progress) : Type 0 where
@@ -60,7 +62,7 @@ module _ (t : Store) (es : List Entry) where
   record Left (k r : ℕ) : Type 0 where
     limits : (x : ℕ) → r ≤ x → x < length es → Limited t (entryAt es x)
     keys : (i : ℕ) → k ≤ i → i < o .count → KeyAsked s o end i (keyAt s o i)
-    versions : (i j : ℕ) → i < o .count → j < versionsOf s o i → r ≤ firstVersion s o i + j → Met i j
+    versions : (i j : ℕ) → i < o .count → j < versionCount s o i → r ≤ firstVersion s o i + j → Met i j
     arena-end : o .arena + addressOf s o (o .count) ≡ end
     records-end : firstVersion s o (o .count) ≡ length es
     prefixes : (o .scan ≡ 0 → ⊥) → leAt s (o .scan + 16) 8 ≡ prefixCount s o (o .count)
@@ -71,9 +73,9 @@ module _ (t : Store) (es : List Entry) where
       → (x : ℕ) → r ≤ x → x < length es → Limited t (entryAt es x)
   more-limits r l f x h n = first-or-later (λ (y : ℕ). Limited t (entryAt es y)) r x h l (λ m. f x m n)
 
-  more-versions : (r i j : ℕ) → j < versionsOf s o i → r ≡ firstVersion s o i + j → Met i j
-      → ((x y : ℕ) → x < o .count → y < versionsOf s o x → suc r ≤ firstVersion s o x + y → Met x y)
-      → (x y : ℕ) → x < o .count → y < versionsOf s o x → r ≤ firstVersion s o x + y → Met x y
+  more-versions : (r i j : ℕ) → j < versionCount s o i → r ≡ firstVersion s o i + j → Met i j
+      → ((x y : ℕ) → x < o .count → y < versionCount s o x → suc r ≤ firstVersion s o x + y → Met x y)
+      → (x y : ℕ) → x < o .count → y < versionCount s o x → r ≤ firstVersion s o x + y → Met x y
   more-versions r i j h q v f x y n l m = go (eqb r (firstVersion s o x + y)) refl
     where
       go : (b : Bool) → eqb r (firstVersion s o x + y) ≡ b → Met x y
@@ -123,7 +125,7 @@ module _ (t : Store) (es : List Entry) where
             prefixes = n .prefixes;
           }
 
-      version-left : (i j : ℕ) → k ≡ suc i → Within s o i j (p .cursor) → j < versionsOf s o i → r ≡ firstVersion s o i + j
+      version-left : (i j : ℕ) → k ≡ suc i → Within s o i j (p .cursor) → j < versionCount s o i → r ≡ firstVersion s o i + j
           → (Stands t k (suc r) (q .cursor) → Counted s o k (q .previous) (q .cursor) → Left k (suc r)) → Left k r
       version-left i j y w h f rest =
           let a = version-visit s o end i j (p .cursor) (p .previous) e (valueOf «data» e) w h d v in
@@ -144,7 +146,7 @@ module _ (t : Store) (es : List Entry) where
           }
 
   record-left : (r k : ℕ) (p q : Progress) (e : Entry) → e ≡ entryAt es r → Stands t k r (p .cursor) → Counted s o k (p .previous) (p .cursor)
-      → entryAsked t p e ≡ reached q
+      → entryAsked t p e ≡ given q
       → ((i : ℕ) → Stands t i (suc r) (q .cursor) → Counted s o i (q .previous) (q .cursor) → Left i (suc r))
       → Left k r
   record-left r k p q e x (before b f) m a rest =
@@ -155,7 +157,7 @@ module _ (t : Store) (es : List Entry) where
       version-left r k p q e (w .1 .0) x m (w .0) (w .1 .1) (w .1 .2) i j y v h f (rest k)
 
   forward : (rest : List Entry) (r k : ℕ) (p q : Progress) → drop r es ≡ rest → r + length rest ≡ length es → Stands t k r (p .cursor)
-      → Counted s o k (p .previous) (p .cursor) → entriesFrom t p rest ≡ reached q → Ended q → Left k r
+      → Counted s o k (p .previous) (p .cursor) → entriesFrom t p rest ≡ given q → Ended q → Left k r
   unfolding entriesFrom
   forward [] r k p q d l st m w z = let e : q ≡ p = cc in ended-left r k p (omega arith) st m (subst Ended e z)
   forward (e ∷ rest) r k p q d l st m w z =
@@ -170,7 +172,7 @@ module _ (t : Store) (es : List Entry) where
     keys : ℕ
     progress : Progress
     few : keys ≤ o .count
-    asked : entryAsked t p e ≡ reached progress
+    asked : entryAsked t p e ≡ given progress
     stands : Stands t keys (suc r) (progress .cursor)
     counted : Counted s o keys (progress .previous) (progress .cursor)
 
@@ -227,7 +229,7 @@ module _ (t : Store) (es : List Entry) where
                 (sym (if-true (eqb (p .cursor .remaining) 0) (e .key) (p .previous) (eq-eqb (p .cursor .remaining) 0 (b .remaining)))) (c .1);
           }
 
-      left-version : (i j : ℕ) → k ≡ suc i → Within s o i j (p .cursor) → j < versionsOf s o i → r ≡ firstVersion s o i + j → Next r p e
+      left-version : (i j : ℕ) → k ≡ suc i → Within s o i j (p .cursor) → j < versionCount s o i → r ≡ firstVersion s o i + j → Next r p e
       left-version i j y w u g =
           let n : i < o .count = omega arith in
           let z = w .remaining in
@@ -249,7 +251,7 @@ module _ (t : Store) (es : List Entry) where
       left-record (within i j y w u g) = left-version i j y w u g
 
     backward : (rest : List Entry) (r k : ℕ) (p : Progress) → drop r es ≡ rest → r + length rest ≡ length es → k ≤ o .count → Stands t k r (p .cursor)
-        → Counted s o k (p .previous) (p .cursor) → (q : Progress) × (entriesFrom t p rest ≡ reached q) × Ended q
+        → Counted s o k (p .previous) (p .cursor) → (q : Progress) × (entriesFrom t p rest ≡ given q) × Ended q
     unfolding entriesFrom
     backward [] r k p d l h st m = (p, refl, left-ended r k p (omega arith) h st m)
     backward (e ∷ rest) r k p d l h st m =
@@ -299,7 +301,7 @@ module _ (t : Store) (es : List Entry) where
             record {
               same = a .versions k j h l;
               falls = λ i q.
-                  let g = a .falling k i h (subst (λ (x : ℕ). x < versionsOf s o k) q l) in
+                  let g = a .falling k i h (subst (λ (x : ℕ). x < versionCount s o k) q l) in
                   let e = a .versions k j h l .seq in
                   let z = ap (versionSeq s o k) q in omega arith;
               checksum = λ c. a .checksums c k j h l;
@@ -326,18 +328,18 @@ module _ (t : Store) (es : List Entry) where
 
   -- the same with the tests of questions 22 and 23, where the pairs end at a place of the data
   pub accepted-exactly : (at : ℕ)
-      → ((q : Progress) × (entriesFrom t (startOf o) es ≡ reached q) × (endsTogether t at (q .cursor) ≡ true) × (prefixesCounted t (q .cursor) ≡ true))
+      → ((q : Progress) × (entriesFrom t (startOf o) es ≡ given q) × (endsTogether t at (q .cursor) ≡ true) × (prefixesCounted t (q .cursor) ≡ true))
       ↔ ((at ≡ length «data») × Agrees t es)
   accepted-exactly at = (to, from)
     where
-      to : (q : Progress) × (entriesFrom t (startOf o) es ≡ reached q) × (endsTogether t at (q .cursor) ≡ true) × (prefixesCounted t (q .cursor) ≡ true)
+      to : (q : Progress) × (entriesFrom t (startOf o) es ≡ given q) × (endsTogether t at (q .cursor) ≡ true) × (prefixesCounted t (q .cursor) ≡ true)
           → (at ≡ length «data») × Agrees t es
       to w =
           let e = ends-exactly t at (w .0 .cursor) .0 (w .2) in
           (e .0, walked-agrees (record { last = w .0; through = w .1; at-end = e .1; none-left = e .2; all-keys = e .3; counted = w .3 }))
 
       from : (at ≡ length «data») × Agrees t es
-          → (q : Progress) × (entriesFrom t (startOf o) es ≡ reached q) × (endsTogether t at (q .cursor) ≡ true) × (prefixesCounted t (q .cursor) ≡ true)
+          → (q : Progress) × (entriesFrom t (startOf o) es ≡ given q) × (endsTogether t at (q .cursor) ≡ true) × (prefixesCounted t (q .cursor) ≡ true)
       from h =
           let w = agrees-walked (h .1) in
           (w .last, w .through, ends-exactly t at (w .last .cursor) .1 (h .0, w .at-end, w .none-left, w .all-keys), w .counted)

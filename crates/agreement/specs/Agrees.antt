@@ -11,13 +11,11 @@ use Rattle.sstable.specs.declared.Kind.the-variants.{Put}
 use Rattle.sstable.specs.Limits.{maxKeyBytes, maxValueBytes}
 use Rattle.block.specs.Walk.{Entry}
 use Rattle.point.specs.Hash.{hashOf, fingerprintOf}
-use Rattle.encoding.specs.Encoding.{scanHeaderLen, group, keyHeaderOf, versionOf}
+use Rattle.encoding.specs.Encoding.{scanHeaderLen, group, keyHeaderLenOf, versionLenOf}
 use Rattle.header.specs.declared.Opened.{Opened}
 use Rattle.arena.specs.Key.{slotPlace}
-use Rattle.opening.specs.Walk.{Store, valueOf}
-use Rattle.opening.specs.Open.{startAt, prefixesCounted}
-use Rattle.agreement.specs.Entries.{Progress, reached, entriesFrom}
-use Rattle.agreement.specs.Keys.{addressOf, headerOfKey, versionsOf, suffixPlace, anchorIndex, keyAt, firstVersion, versionSeq, versionKind, versionLength, versionOffset, versionChecksum, prefixCount}
+use Rattle.validate.specs.Walk.{Inputs, valueOf}
+use Rattle.agreement.specs.Keys.{addressOf, keyHeaderOf, versionCount, suffixPlace, anchorIndex, keyAt, firstVersion, versionSeq, versionKind, versionLength, versionOffset, versionChecksum, prefixCount}
 
 -- stands for a record behind the last one
 unfoldable pub noEntry : Entry
@@ -29,14 +27,14 @@ entryAt es r = getD es r noEntry
 
 -- question 16 of key record k, in an arena that ends at `end`; fewer than n keys come before it
 pub record KeyStands (s : List ℕ) (o : Opened) (end k : ℕ) : Type 0 where
-  pub header-inside : o .arena + addressOf s o k + keyHeaderOf (o .encoding) ≤ end
-  pub anchor-whole : k % group ≡ 0 → headerOfKey s o k .shared ≡ 0
-  pub anchor : headerOfKey s o k .anchor ≡ addressOf s o (anchorIndex k) + keyHeaderOf (o .encoding)
-  pub shared : headerOfKey s o k .shared ≤ headerOfKey s o (anchorIndex k) .«suffix_len»
-  pub suffix-inside : suffixPlace s o k + headerOfKey s o k .«suffix_len» ≤ end
-  pub some-version : 0 < versionsOf s o k
-  pub versions-inside : suffixPlace s o k + headerOfKey s o k .«suffix_len» + versionsOf s o k * versionOf (o .encoding) ≤ end
-  pub short : headerOfKey s o k .shared + headerOfKey s o k .«suffix_len» ≤ maxKeyBytes
+  pub header-inside : o .arena + addressOf s o k + keyHeaderLenOf (o .encoding) ≤ end
+  pub anchor-whole : k % group ≡ 0 → keyHeaderOf s o k .shared ≡ 0
+  pub anchor : keyHeaderOf s o k .anchor ≡ addressOf s o (anchorIndex k) + keyHeaderLenOf (o .encoding)
+  pub shared : keyHeaderOf s o k .shared ≤ keyHeaderOf s o (anchorIndex k) .«suffix_len»
+  pub suffix-inside : suffixPlace s o k + keyHeaderOf s o k .«suffix_len» ≤ end
+  pub some-version : 0 < versionCount s o k
+  pub versions-inside : suffixPlace s o k + keyHeaderOf s o k .«suffix_len» + versionCount s o k * versionLenOf (o .encoding) ≤ end
+  pub short : keyHeaderOf s o k .shared + keyHeaderOf s o k .«suffix_len» ≤ maxKeyBytes
 
 -- question 20 of a record beside version j of key k, but for the order of sequences
 pub record SameVersion (s : List ℕ) (o : Opened) (k j : ℕ) (e : Entry) : Type 0 where
@@ -46,8 +44,8 @@ pub record SameVersion (s : List ℕ) (o : Opened) (k j : ℕ) (e : Entry) : Typ
   pub size : e .size ≡ versionLength s o k j
   pub place : e .place ≡ versionOffset s o k j
 
-module _ (t : Store) where
-  open Store t using (section as s, backing as «data», opened as o, end, half)
+module _ (t : Inputs) where
+  open Inputs t using (section as s, backing as «data», opened as o, end, half)
 
   -- the records, all blocks one behind the other, agree with the arena of n keys
   pub record Agrees (es : List Entry) : Type 0 where
@@ -71,28 +69,15 @@ module _ (t : Store) where
         → leAt s (slotPlace s o (hashOf (keyAt s o k) (o .seed)) + o .encoding .address) 2
         ≡ fingerprintOf (hashOf (keyAt s o k) (o .seed))
     -- question 20
-    pub versions : (k j : ℕ) → k < o .count → j < versionsOf s o k
+    pub versions : (k j : ℕ) → k < o .count → j < versionCount s o k
         → SameVersion s o k j (entryAt es (firstVersion s o k + j))
-    pub falling : (k j : ℕ) → k < o .count → suc j < versionsOf s o k
+    pub falling : (k j : ℕ) → k < o .count → suc j < versionCount s o k
         → versionSeq s o k (suc j) < versionSeq s o k j
     -- question 21
-    pub checksums : o .encoding .checksum ≡ true → (k j : ℕ) → k < o .count → j < versionsOf s o k
+    pub checksums : o .encoding .checksum ≡ true → (k j : ℕ) → k < o .count → j < versionCount s o k
         → versionChecksum s o k j ≡ crcOf (valueOf «data» (entryAt es (firstVersion s o k + j)))
     -- question 22, but for the end of the data
     pub arena-end : o .arena + addressOf s o (o .count) ≡ end
     pub records-end : firstVersion s o (o .count) ≡ length es
     -- question 23
     pub prefixes : (o .scan ≡ 0 → ⊥) → leAt s (o .scan + 16) 8 ≡ prefixCount s o (o .count)
-
--- no key yet, and the cursor at the arena's start
-unfoldable pub startOf : Opened → Progress
-startOf o = record { previous = []; cursor = startAt o }
-
--- the walk over the records goes through, and questions 22, but for the end of the data, and 23 are answered by yes
-pub record Walked (t : Store) (es : List Entry) : Type 0 where
-  pub last : Progress
-  pub through : entriesFrom t (startOf (t .opened)) es ≡ reached last
-  pub at-end : last .cursor .pos ≡ t .end
-  pub none-left : last .cursor .remaining ≡ 0
-  pub all-keys : last .cursor .groups ≡ t .opened .count
-  pub counted : prefixesCounted t (last .cursor) ≡ true

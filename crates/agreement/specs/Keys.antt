@@ -8,16 +8,16 @@ use Rattle.num.specs.Number.{leAt}
 use Rattle.num.specs.Order.{equalBytes}
 use Rattle.sstable.specs.declared.Kind.{Kind}
 use Rattle.encoding.specs.declared.Encoding.{Encoding}
-use Rattle.encoding.specs.Encoding.{group, keyHeaderOf, versionOf}
+use Rattle.encoding.specs.Encoding.{group, keyHeaderLenOf, versionLenOf}
 use Rattle.header.specs.declared.Opened.{Opened}
 use Rattle.arena.specs.declared.KeyHeader.{KeyHeader}
 use Rattle.arena.specs.Key.{keyHeaderAt}
-use Rattle.arena.specs.Version.{storedSeq, storedValue, kindIn, lengthIn, storedOffset, storedChecksum}
+use Rattle.versions.specs.Version.{storedSeq, storedValue, kindIn, lengthIn, storedOffset, storedChecksum}
 use Rattle.num.specs.Choice.{if_then_else_}
 
 -- the bytes of a key record
 unfoldable pub keyRecordLen : Encoding → KeyHeader → ℕ
-keyRecordLen e h = keyHeaderOf e + h .«suffix_len» + h .versions * versionOf e
+keyRecordLen e h = keyHeaderLenOf e + h .«suffix_len» + h .versions * versionLenOf e
 
 -- the address of key record k: the first stands at 0, each other behind the one before
 unfoldable pub addressOf : List ℕ → Opened → ℕ → ℕ
@@ -26,16 +26,16 @@ addressOf s o (suc k) =
     addressOf s o k + keyRecordLen (o .encoding) (keyHeaderAt s (o .encoding) (o .arena + addressOf s o k))
 
 -- its key header
-unfoldable pub headerOfKey : List ℕ → Opened → ℕ → KeyHeader
-headerOfKey s o k = keyHeaderAt s (o .encoding) (o .arena + addressOf s o k)
+unfoldable pub keyHeaderOf : List ℕ → Opened → ℕ → KeyHeader
+keyHeaderOf s o k = keyHeaderAt s (o .encoding) (o .arena + addressOf s o k)
 
 -- how many versions it has
-unfoldable pub versionsOf : List ℕ → Opened → ℕ → ℕ
-versionsOf s o k = headerOfKey s o k .versions
+unfoldable pub versionCount : List ℕ → Opened → ℕ → ℕ
+versionCount s o k = keyHeaderOf s o k .versions
 
 -- the place of its suffix in the section
 unfoldable pub suffixPlace : List ℕ → Opened → ℕ → ℕ
-suffixPlace s o k = o .arena + addressOf s o k + keyHeaderOf (o .encoding)
+suffixPlace s o k = o .arena + addressOf s o k + keyHeaderLenOf (o .encoding)
 
 -- the index of its anchor: every 1,024th key from key 0 on is one (question 16)
 unfoldable pub anchorIndex : ℕ → ℕ
@@ -44,17 +44,17 @@ anchorIndex k = group * (k / group)
 -- the bytes of key k: what it shares with its anchor's suffix, then its own suffix
 unfoldable pub keyAt : List ℕ → Opened → ℕ → List ℕ
 keyAt s o k =
-    take (headerOfKey s o k .shared) (drop (suffixPlace s o (anchorIndex k)) s)
-    ++ take (headerOfKey s o k .«suffix_len») (drop (suffixPlace s o k) s)
+    take (keyHeaderOf s o k .shared) (drop (suffixPlace s o (anchorIndex k)) s)
+    ++ take (keyHeaderOf s o k .«suffix_len») (drop (suffixPlace s o k) s)
 
 -- the versions of all keys before key k: its version j is record `firstVersion k + j`
 unfoldable pub firstVersion : List ℕ → Opened → ℕ → ℕ
 firstVersion s o zero = 0
-firstVersion s o (suc k) = firstVersion s o k + versionsOf s o k
+firstVersion s o (suc k) = firstVersion s o k + versionCount s o k
 
 -- the place of version j of key k in the section
 unfoldable pub versionPlace : List ℕ → Opened → ℕ → ℕ → ℕ
-versionPlace s o k j = suffixPlace s o k + headerOfKey s o k .«suffix_len» + j * versionOf (o .encoding)
+versionPlace s o k j = suffixPlace s o k + keyHeaderOf s o k .«suffix_len» + j * versionLenOf (o .encoding)
 
 -- what is stored of that version: its sequence, kind, value length, value offset and checksum
 unfoldable pub versionSeq : List ℕ → Opened → ℕ → ℕ → ℕ
@@ -88,5 +88,5 @@ prefixCount s o (suc k) = if prefixNew s o k then prefixCount s o k + 1 else pre
 
 -- names all definitions of this file: `unfolding index-defs` opens them
 unfoldable pub index-defs : ℕ
-unfolding keyRecordLen addressOf headerOfKey versionsOf suffixPlace anchorIndex keyAt firstVersion versionPlace versionSeq versionKind versionLength versionOffset versionChecksum prefixAt prefixNew prefixCount
+unfolding keyRecordLen addressOf keyHeaderOf versionCount suffixPlace anchorIndex keyAt firstVersion versionPlace versionSeq versionKind versionLength versionOffset versionChecksum prefixAt prefixNew prefixCount
 index-defs = 0

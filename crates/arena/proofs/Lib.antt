@@ -1,4 +1,3 @@
 pub mod Questions
 pub mod Reading
-pub mod Stored
-pub mod Visiting
+pub mod Entering

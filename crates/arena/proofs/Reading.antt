@@ -17,13 +17,12 @@ use Rattle.num.proofs.Number.{leAt-lt}
 use Rattle.point.specs.Hash.{bucketOf, slotOf}
 use Rattle.point.proofs.Slots.{bucket-lt, slot-lt}
 use Rattle.encoding.specs.declared.Encoding.{Encoding}
-use Rattle.encoding.specs.Encoding.{Widths, bucketsOf, arenaStartOf, versionOf, tombstoneOf}
+use Rattle.encoding.specs.Encoding.{Widths, bucketsOf, arenaStartOf, versionLenOf, tombstoneOf}
 use Rattle.encoding.proofs.Widths.{widths-le, tombstone-double}
 use Rattle.header.specs.declared.Opened.{Opened}
 use Rattle.arena.specs.declared.Cursor.{Cursor}
 use Rattle.arena.specs.Key.{keyHeaderAt, pilotPlace, slotPlace}
-use Rattle.arena.specs.Version.{storedSeq}
-use Rattle.arena.specs.Inside.{Readable, Inside, Standing, Narrow}
+use Rattle.arena.specs.Internal.{Readable, Inside, Standing, Narrow}
 
 -- each width is one of those that are read
 pub widths-read : (e : Encoding) → Widths e
@@ -38,8 +37,8 @@ widths-read e w = (
 )
 
 -- a version is at most 24 bytes long
-pub version-le : (e : Encoding) → Widths e → versionOf e ≤ 24
-unfolding versionOf
+pub version-le : (e : Encoding) → Widths e → versionLenOf e ≤ 24
+unfolding versionLenOf
 version-le e w =
     let h = widths-le e w in
     let c : if_then_else_ (e .checksum) 4 0 ≤ 4 = if-case (λ n. n ≤ 4) (e .checksum) 4 0 (λ _. omega arith) (λ _. omega arith) in
@@ -107,7 +106,7 @@ module _ (s : List ℕ) (o : Opened) (r : Readable s o) where
 -- a cursor with a version to come stands at it
 pub inside-standing : (s : List ℕ) (o : Opened) (end : ℕ) (c : Cursor) → Inside s o end c → 1 ≤ c .remaining → Standing s o c
 inside-standing s o end c i h =
-    let v = mul-le-mul-right {m = 1} {n = c .remaining} (versionOf (o .encoding)) h in
+    let v = mul-le-mul-right {m = 1} {n = c .remaining} (versionLenOf (o .encoding)) h in
     let w = i .versions in
     let e = i .end-inside in
     let a = i .anchor in
@@ -129,38 +128,3 @@ pub named : (s : List ℕ) (o : Opened) (h b p : ℕ) {n : ℕ} → b ≡ bucket
 unfolding pilotPlace
 named s o h b p eb ep en =
     en ∙ ap (λ (q : ℕ). slotOf h q (o .count)) (ep ∙ ap (λ (k : ℕ). leAt s (64 + 4 * k) 4) eb)
-
--- ---- the numbers of a version
-
--- a sequence below the least never agrees
-pub seq-below : (s : List ℕ) (o : Opened) (pos seq : ℕ) → seq < o .«min_seq» → eqb (storedSeq s o pos) seq ≡ false
-unfolding storedSeq
-seq-below s o pos seq h = ne-eqb _ _ (λ (e : o .«min_seq» + leAt s pos (o .encoding .seq) ≡ seq). omega arith)
-
--- another agrees if the stored number is what it is above the least
-pub seq-less : (s : List ℕ) (o : Opened) (pos seq : ℕ) {n : ℕ} → o .«min_seq» ≤ seq → n ≡ leAt s pos (o .encoding .seq)
-    → eqb n (seq - o .«min_seq») ≡ eqb (storedSeq s o pos) seq
-unfolding storedSeq
-seq-less s o pos seq {n} h e =
-    same-truth (eqb n (seq - o .«min_seq»)) (eqb (o .«min_seq» + leAt s pos (o .encoding .seq)) seq)
-    (λ t. let l = eqb-true n (seq - o .«min_seq») t in eq-eqb (o .«min_seq» + leAt s pos (o .encoding .seq)) seq (omega arith))
-    (λ t. let l = eqb-true (o .«min_seq» + leAt s pos (o .encoding .seq)) seq t in eq-eqb n (seq - o .«min_seq») (omega arith))
-
--- with checksums, the CRC-32 of a version lies in the section
-pub checksum-inside : (s : List ℕ) (o : Opened) (c : Cursor) → Standing s o c → o .encoding .checksum ≡ true
-    → c .pos + o .encoding .seq + o .encoding .value + o .encoding .address + 4 ≤ length s
-unfolding versionOf if_then_else_
-checksum-inside s o c g t =
-    let v = g .version in
-    let e : _≡_ {A = ℕ} (if_then_else_ (o .encoding .checksum) 4 0) 4 = ap (λ (b : Bool). if_then_else_ {A = ℕ} b 4 0) t in
-    omega arith
-
--- without them too, the numbers before it do
-pub version-inside : (s : List ℕ) (o : Opened) (c : Cursor) → Standing s o c
-    → c .pos + o .encoding .seq + o .encoding .value + o .encoding .address ≤ length s
-unfolding versionOf
-version-inside s o c g = let v = g .version in omega arith
-
--- a stored value length has no bit above the tombstone's
-pub value-lt : (s : List ℕ) (e : Encoding) (at : ℕ) → Bytes s → Widths e → leAt s at (e .value) < 2 * tombstoneOf e
-value-lt s e at b w = subst⁻¹ (λ (n : ℕ). leAt s at (e .value) < n) (tombstone-double e w) (leAt-lt s b (e .value) at)

@@ -4,13 +4,13 @@ use mathlib.Core.List.{List}
 use mathlib.Core.Bool.{Bool, true, not}
 use lib.Dec.{eqb, leb, ltb}
 use lib.ListN.{take}
-use Rattle.num.specs.Choice.{if_then_else_, both, either}
+use Rattle.num.specs.Choice.{if_then_else_, ask_otherwise_then_, both, either}
 use Rattle.num.specs.Number.{leAt}
 use Rattle.num.specs.Order.{lessThan, equalBytes}
 use Rattle.sstable.specs.Limits.{maxKeyBytes}
 use Rattle.point.specs.Hash.{hashOf, bucketOf, slotOf, fingerprintOf}
 use Rattle.encoding.specs.declared.Encoding.{Encoding}
-use Rattle.encoding.specs.Encoding.{headerLen, scanHeaderLen, group, keyHeaderOf, versionOf}
+use Rattle.encoding.specs.Encoding.{headerLen, scanHeaderLen, group, keyHeaderLenOf, versionLenOf}
 use Rattle.header.specs.declared.Opened.{Opened}
 use Rattle.arena.specs.declared.Cursor.{Cursor}
 use Rattle.arena.specs.declared.KeyHeader.{KeyHeader}
@@ -33,7 +33,7 @@ atAnchor c = eqb (c .groups % group) 0
 
 -- the address of the suffix of the next key record
 unfoldable pub suffixAddress : Opened → Cursor → ℕ
-suffixAddress o c = c .pos + keyHeaderOf (o .encoding) - o .arena
+suffixAddress o c = c .pos + keyHeaderLenOf (o .encoding) - o .arena
 
 -- the address of the latest anchor's suffix, the next key included
 unfoldable pub anchorOf : Opened → Cursor → ℕ
@@ -45,7 +45,7 @@ anchorLenOf c h = if atAnchor c then h .«suffix_len» else c .«anchor_len»
 
 -- question 16, before the key header is read: fewer than n keys so far, and the key header inside the arena, which ends at `end`?
 unfoldable pub keyInside : Opened → ℕ → Cursor → Bool
-keyInside o end c = both (ltb (c .groups) (o .count)) (leb (c .pos + keyHeaderOf (o .encoding)) end)
+keyInside o end c = both (ltb (c .groups) (o .count)) (leb (c .pos + keyHeaderLenOf (o .encoding)) end)
 
 -- question 16 of the key header: shared 0 at an anchor, stored anchor the address of the latest anchor's suffix, shared at most
 -- the anchor's length, suffix inside, versions nonzero and inside, key at most 1,048,576 bytes?
@@ -54,9 +54,9 @@ keyFits o end c h =
     both (either (not (atAnchor c)) (eqb (h .shared) 0))
     (both (eqb (h .anchor) (anchorOf o c))
     (both (leb (h .shared) (anchorLenOf c h))
-    (both (leb (c .pos + keyHeaderOf (o .encoding) + h .«suffix_len») end)
+    (both (leb (c .pos + keyHeaderLenOf (o .encoding) + h .«suffix_len») end)
     (both (ltb 0 (h .versions))
-    (both (leb (c .pos + keyHeaderOf (o .encoding) + h .«suffix_len» + h .versions * versionOf (o .encoding)) end)
+    (both (leb (c .pos + keyHeaderLenOf (o .encoding) + h .«suffix_len» + h .versions * versionLenOf (o .encoding)) end)
     (leb (h .shared + h .«suffix_len») maxKeyBytes))))))
 
 -- question 17: is the key greater than the last?
@@ -89,17 +89,21 @@ prefixChanges s o c previous key =
     both (not (eqb (o .scan) 0))
     (either (eqb (c .groups) 0) (not (equalBytes (take (leAt s (o .scan + 8) 4) key) (take (leAt s (o .scan + 8) 4) previous))))
 
--- the cursor behind a key header and its suffix
+-- Where the walk of the arena stands is a record of numbers, `Cursor`: the place of the next version, or of the next key record; the
+-- keys met so far; the versions of the current key still to come; the address of the latest anchor's suffix and its length; how many
+-- bytes the current key shares with it, and the place and length of its own suffix; how often the scan prefix has changed; the
+-- sequence of the current key's last version, unless the next one is its first.
+-- Here it is behind a key header and its suffix.
 unfoldable pub entered : Opened → Cursor → KeyHeader → Bool → Cursor
 entered o c h changes =
     record {
-      pos = c .pos + keyHeaderOf (o .encoding) + h .«suffix_len»;
+      pos = c .pos + keyHeaderLenOf (o .encoding) + h .«suffix_len»;
       groups = c .groups + 1;
       remaining = h .versions;
       anchor = anchorOf o c;
       «anchor_len» = anchorLenOf c h;
       shared = h .shared;
-      suffix = c .pos + keyHeaderOf (o .encoding);
+      suffix = c .pos + keyHeaderLenOf (o .encoding);
       «suffix_len» = h .«suffix_len»;
       prefixes = if changes then c .prefixes + 1 else c .prefixes;
       «last_seq» = 0;
@@ -109,22 +113,19 @@ entered o c h changes =
 -- questions 16 to 19 of a key header at the cursor, for a record's key: the first "no" gives its number
 unfoldable pub keyFor : List ℕ → Opened → ℕ → Cursor → List ℕ → List ℕ → KeyHeader → Visited
 keyFor s o end c previous key h =
-    if keyFits o end c h
-    then if keyRises c previous key
-    then if scanNames s o c
-    then if slotNames s o c (hashOf key (o .seed))
-    then Went (entered o c h (prefixChanges s o c previous key))
-    else Refused 19
-    else Refused 18
-    else Refused 17
-    else Refused 16
+    ask keyFits o end c h otherwise Refused 16 then
+    ask keyRises c previous key otherwise Refused 17 then
+    ask scanNames s o c otherwise Refused 18 then
+    ask slotNames s o c (hashOf key (o .seed)) otherwise Refused 19 then
+    Went (entered o c h (prefixChanges s o c previous key))
 
 -- questions 16 to 19 of a record's key at the cursor
 unfoldable pub keyOf : List ℕ → Opened → ℕ → Cursor → List ℕ → List ℕ → Visited
 keyOf s o end c previous key =
-    if keyInside o end c then keyFor s o end c previous key (keyHeaderAt s (o .encoding) (c .pos)) else Refused 16
+    ask keyInside o end c otherwise Refused 16 then
+    keyFor s o end c previous key (keyHeaderAt s (o .encoding) (c .pos))
 
--- names all definitions of this file: `unfolding key-defs` opens them
+-- for proofs alone: `unfolding key-defs` opens the definitions of this file
 unfoldable pub key-defs : ℕ
 unfolding keyHeaderAt atAnchor suffixAddress anchorOf anchorLenOf keyInside keyFits keyRises scanNames pilotPlace slotPlace slotNames prefixChanges entered keyFor keyOf
 key-defs = 0

@@ -1,3 +1,2 @@
 pub mod Key
-pub mod Version
-pub mod Inside
+pub mod Internal

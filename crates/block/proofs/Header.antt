@@ -9,6 +9,7 @@ use native.Mathlib.Omega.{arith}
 use lib.Dec.{leb}
 use lib.ListN.{getD}
 use borrow.Author.Tests.{leb-true, le-leb, eqb-true, eq-eqb}
+use Rattle.num.specs.Choice.{if_then_else_}
 use Rattle.num.specs.Number.{Bytes}
 use Rattle.num.proofs.Number.{leAt-lt}
 use Rattle.sstable.specs.Kind.{kindOf}
@@ -17,20 +18,20 @@ use Rattle.sstable.specs.declared.Kind.the-variants.{Put, Tombstone}
 use Rattle.sstable.specs.declared.KindRead.{KindRead}
 use Rattle.sstable.specs.declared.KindRead.the-variants.{Known, Unknown}
 use Rattle.block.specs.declared.EntryHeader.{EntryHeader}
-use Rattle.block.specs.declared.HeaderRead.{HeaderRead}
-use Rattle.block.specs.declared.HeaderRead.the-variants.{Entry, Bad}
-use Rattle.block.specs.Header.{numbersAt, valueAllowed, entryIf, headerFor, headerKind, headerOf, SoundEntry}
+use Rattle.block.specs.declared.EntryRead.{EntryRead}
+use Rattle.block.specs.declared.EntryRead.the-variants.{Read, Bad}
+use Rattle.block.specs.EntryHeader.{numbersAt, valueAllowed, entryHeaderFor, entryHeaderKind, entryHeaderOf, SoundEntry}
 
-bad-entry : {A : Type 0} (h : EntryHeader) → Bad ≡ Entry h → A
+bad-entry : {A : Type 0} (h : EntryHeader) → Bad ≡ Read h → A
 bad-entry h e = absurd (let z : _≡_ {A = ℕ} 0 1 = cc in omega arith)
 
-passed : (b : Bool) (r : HeaderRead) (h : EntryHeader) → entryIf b r ≡ Entry h → (b ≡ true) × (r ≡ Entry h)
-unfolding entryIf
+passed : (b : Bool) (r : EntryRead) (h : EntryHeader) → (if b then r else Bad) ≡ Read h → (b ≡ true) × (r ≡ Read h)
+unfolding if_then_else_
 passed true r h e = (refl, e)
 passed false r h e = bad-entry h e
 
-goes-on : (b : Bool) (r q : HeaderRead) → b ≡ true → r ≡ q → entryIf b r ≡ q
-unfolding entryIf
+goes-on : (b : Bool) (r q : EntryRead) → b ≡ true → r ≡ q → (if b then r else Bad) ≡ q
+unfolding if_then_else_
 goes-on b r q e f = rw (e, f)
 
 allowed-empty : (k : Kind) (n : ℕ) → valueAllowed k n ≡ true → k ≡ Tombstone → n ≡ 0
@@ -44,8 +45,8 @@ empty-allowed Put n h = refl
 empty-allowed Tombstone n h = eq-eqb n 0 (h refl)
 
 module _ (s : List ℕ) (end pos : ℕ) (h : EntryHeader) where
-  facts-of-kind : (q : KindRead) → leb (pos + 21) end ≡ true → kindOf (getD s pos 0) ≡ q → headerKind s end pos q ≡ Entry h → SoundEntry s end pos h
-  unfolding headerKind headerFor numbersAt
+  facts-of-kind : (q : KindRead) → leb (pos + 21) end ≡ true → kindOf (getD s pos 0) ≡ q → entryHeaderKind s end pos q ≡ Read h → SoundEntry s end pos h
+  unfolding entryHeaderKind entryHeaderFor numbersAt
   facts-of-kind (Known k) l f e =
       let p₁ = passed _ _ h e in
       let p₂ = passed _ _ h (p₁ .1) in
@@ -63,26 +64,26 @@ module _ (s : List ℕ) (end pos : ℕ) (h : EntryHeader) where
       })
   facts-of-kind Unknown l f e = bad-entry h e
 
-  entry-facts : headerOf s end pos ≡ Entry h → SoundEntry s end pos h
-  unfolding headerOf
+  entry-facts : entryHeaderOf s end pos ≡ Read h → SoundEntry s end pos h
+  unfolding entryHeaderOf
   entry-facts e =
       let p = passed _ _ h e in
       facts-of-kind (kindOf (getD s pos 0)) (p .0) refl (p .1)
 
-  facts-entry : SoundEntry s end pos h → headerOf s end pos ≡ Entry h
-  unfolding headerOf headerKind headerFor numbersAt
+  facts-entry : SoundEntry s end pos h → entryHeaderOf s end pos ≡ Read h
+  unfolding entryHeaderOf entryHeaderKind entryHeaderFor numbersAt
   facts-entry f =
       let q : numbersAt s pos (h .kind) ≡ h =
       λ i. record { kind = h .kind; seq = f .seq i; shared = f .shared i; «non_shared» = f .«non_shared» i; «value_len» = f .«value_len» i } in
       goes-on _ _ _ (le-leb _ _ (f .header-inside))
-      (ap (headerKind s end pos) (f .kind)
-      ∙ ap (headerFor end pos) q
+      (ap (entryHeaderKind s end pos) (f .kind)
+      ∙ ap (entryHeaderFor end pos) q
       ∙ goes-on _ _ _ (empty-allowed _ _ (f .tombstone-empty)) (goes-on _ _ _ (le-leb _ _ (f .inside)) refl))
 
 -- an entry passes exactly if the plain facts hold, and its numbers are theirs
-pub entry-exactly : (s : List ℕ) (end pos : ℕ) (h : EntryHeader) → (headerOf s end pos ≡ Entry h) ↔ SoundEntry s end pos h
+pub entry-exactly : (s : List ℕ) (end pos : ℕ) (h : EntryHeader) → (entryHeaderOf s end pos ≡ Read h) ↔ SoundEntry s end pos h
 entry-exactly s end pos h = (entry-facts s end pos h, facts-entry s end pos h)
 
 -- the shared length of an entry has 4 bytes
-pub shared-narrow : (s : List ℕ) (end pos : ℕ) (h : EntryHeader) → Bytes s → headerOf s end pos ≡ Entry h → h .shared < 2 ^ 32
+pub shared-narrow : (s : List ℕ) (end pos : ℕ) (h : EntryHeader) → Bytes s → entryHeaderOf s end pos ≡ Read h → h .shared < 2 ^ 32
 shared-narrow s end pos h b e = subst (λ (n : ℕ). n < 2 ^ 32) (entry-facts s end pos h e .shared) (leAt-lt s b 4 (pos + 1))

@@ -2,4 +2,3 @@ pub mod Sound
 pub mod Header
 pub mod Step
 pub mod Walk
-pub mod Examples

@@ -10,12 +10,12 @@ use native.Mathlib.Omega.{arith}
 use lib.Dec.{ltb, eqb}
 use lib.ListN.{length}
 use borrow.Author.Tests.{ltb-true, leb-true, eqb-true, eqb-false, lt-ltb, le-leb, eq-eqb, ne-eqb}
-use Rattle.num.specs.Choice.{either}
+use Rattle.num.specs.Choice.{if_then_else_, either}
 use Rattle.num.proofs.Choice.{false-true, both-true, true-both}
 use Rattle.block.specs.declared.BlockMeta.{BlockMeta}
 use Rattle.block.specs.declared.Verified.{Verified}
-use Rattle.block.specs.declared.Verified.the-variants.{Sound}
-use Rattle.block.specs.Verify.{restartsIn, entriesEndIn, restartAt, restartSound, restartsSound, metaOf, soundIf, restartsVerified, verifyOf, SoundBlock}
+use Rattle.block.specs.declared.Verified.the-variants.{Sound, Unsound}
+use Rattle.block.specs.Verify.{restartsIn, entriesEndIn, restartAt, restartSound, restartsSound, metaOf, restartsVerified, verifyOf, SoundBlock}
 
 -- a number below another that is one more is below it or is it
 last-or-below : (P : ℕ → Type 0) (i n : ℕ) → i < suc n → P n → ((i < n) → P i) → P i
@@ -83,8 +83,8 @@ module _ (raw : List ℕ) (end : ℕ) where
       go true e = refl
       go false e = let d = eqb-false i 0 e in lt-ltb _ _ (r (i - 1) (omega arith))
 
-passed : (b : Bool) (v : Verified) (m : BlockMeta) → soundIf b v ≡ Sound m → (b ≡ true) × (v ≡ Sound m)
-unfolding soundIf
+passed : (b : Bool) (v : Verified) (m : BlockMeta) → (if b then v else Unsound) ≡ Sound m → (b ≡ true) × (v ≡ Sound m)
+unfolding if_then_else_
 passed true v m e = (refl, e)
 passed false v m e = absurd (let z : _≡_ {A = ℕ} 0 1 = cc in omega arith)
 
@@ -117,8 +117,8 @@ sound-facts raw m e =
       first = eqb-true _ _ (p₈ .0);
     })
 
-goes-on : (b : Bool) (v w : Verified) → b ≡ true → v ≡ w → soundIf b v ≡ w
-unfolding soundIf
+goes-on : (b : Bool) (v w : Verified) → b ≡ true → v ≡ w → (if b then v else Unsound) ≡ w
+unfolding if_then_else_
 goes-on b v w p q = rw (p, q)
 
 -- a sound block's entries end where its length and its number of restart offsets say

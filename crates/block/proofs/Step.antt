@@ -8,7 +8,7 @@ use native.Mathlib.Omega.{arith}
 use lib.Dec.{leb}
 use lib.ListN.{length, getD, take, drop, length-append, length-drop}
 use lib.Seq.{sets, length-take-le, take-take}
-use borrow.Author.Tests.{leb-true, le-leb}
+use borrow.Author.Tests.{leb-true}
 use Rattle.num.specs.Choice.{if_then_else_}
 use Rattle.num.specs.Number.{leAt, Bytes}
 use Rattle.num.proofs.Lists.{bytes-take, bytes-drop, bytes-append}
@@ -17,14 +17,14 @@ use Rattle.sstable.specs.Kind.{kindOf}
 use Rattle.sstable.specs.declared.Kind.the-variants.{Tombstone}
 use Rattle.sstable.specs.declared.KindRead.the-variants.{Known}
 use Rattle.block.specs.declared.EntryHeader.{EntryHeader}
-use Rattle.block.specs.declared.HeaderRead.{HeaderRead}
-use Rattle.block.specs.declared.HeaderRead.the-variants as read
+use Rattle.block.specs.declared.EntryRead.{EntryRead}
+use Rattle.block.specs.declared.EntryRead.the-variants as read
 use Rattle.block.specs.declared.Record.{Record}
 use Rattle.block.specs.declared.Stepped.{Stepped}
 use Rattle.block.specs.declared.Stepped.the-variants.{Met, Stopped}
-use Rattle.block.specs.Header.{headerOf}
-use Rattle.block.specs.Record.{recordFrom, recordFor, recordOf}
-use Rattle.block.specs.Walk.{Entry, met, stop, entryFrom, stepFor, stepOf, entryOf}
+use Rattle.block.specs.EntryHeader.{entryHeaderOf, SoundEntry}
+use Rattle.block.specs.Record.{recordFrom, recordAtFor, recordAt}
+use Rattle.block.specs.Walk.{Entry, met, stop, stepFor, stepOf, entryOf}
 use Rattle.block.proofs.Header.{entry-exactly}
 
 -- ---- the record that is answered
@@ -34,28 +34,23 @@ unfolding if_then_else_
 kept true q r e = (refl, cc)
 kept false q r e = absurd (let z : _≡_ {A = ℕ} 0 1 = cc in omega arith)
 
-not-kept : (b : Bool) (q : Record) → if_then_else_ b (Met q) Stopped ≡ Stopped → b ≡ false
-unfolding if_then_else_
-not-kept true q e = absurd (let z : _≡_ {A = ℕ} 0 1 = cc in omega arith)
-not-kept false q e = refl
-
 -- what a record that is answered was made of
 record Answered (s : List ℕ) (end pos keyLen : ℕ) (r : Record) : Type 0 where
   header : EntryHeader
-  passes : headerOf s end pos ≡ read.Entry header
+  passes : entryHeaderOf s end pos ≡ read.Read header
   shared : header .shared ≤ keyLen
   made : recordFrom pos header ≡ r
 
-answered-for : (s : List ℕ) (end pos keyLen : ℕ) (r : Record) (q : HeaderRead) → headerOf s end pos ≡ q → recordFor pos keyLen q ≡ Met r → Answered s end pos keyLen r
-unfolding recordFor
-answered-for s end pos keyLen r (read.Entry h) p e =
+answered-for : (s : List ℕ) (end pos keyLen : ℕ) (r : Record) (q : EntryRead) → entryHeaderOf s end pos ≡ q → recordAtFor pos keyLen q ≡ Met r → Answered s end pos keyLen r
+unfolding recordAtFor
+answered-for s end pos keyLen r (read.Read h) p e =
     let k = kept _ _ r e in
     record { header = h; passes = p; shared = leb-true _ _ (k .0); made = k .1 }
 answered-for s end pos keyLen r read.Bad p e = absurd (let z : _≡_ {A = ℕ} 0 1 = cc in omega arith)
 
-answered : (s : List ℕ) (end pos keyLen : ℕ) (r : Record) → recordOf s end pos keyLen ≡ Met r → Answered s end pos keyLen r
-unfolding recordOf
-answered s end pos keyLen r e = answered-for s end pos keyLen r (headerOf s end pos) refl e
+answered : (s : List ℕ) (end pos keyLen : ℕ) (r : Record) → recordAt s end pos keyLen ≡ Met r → Answered s end pos keyLen r
+unfolding recordAt
+answered s end pos keyLen r e = answered-for s end pos keyLen r (entryHeaderOf s end pos) refl e
 
 -- where a record that is answered lies
 pub record RecordInside (end pos keyLen : ℕ) (r : Record) : Type 0 where
@@ -65,7 +60,7 @@ pub record RecordInside (end pos keyLen : ℕ) (r : Record) : Type 0 where
   pub next : r .place + r .size ≡ r .next
   pub inside : r .next ≤ end
 
-pub record-inside : (s : List ℕ) (end pos keyLen : ℕ) (r : Record) → recordOf s end pos keyLen ≡ Met r → RecordInside end pos keyLen r
+pub record-inside : (s : List ℕ) (end pos keyLen : ℕ) (r : Record) → recordAt s end pos keyLen ≡ Met r → RecordInside end pos keyLen r
 unfolding recordFrom
 record-inside s end pos keyLen r e =
     let a = answered s end pos keyLen r e in
@@ -77,51 +72,16 @@ record-inside s end pos keyLen r e =
 
 -- ---- the record with its key
 
-from-record : (s : List ℕ) (pos : ℕ) (prev : List ℕ) (h : EntryHeader) → entryFrom s pos prev h ≡ entryOf s pos prev (recordFrom pos h)
-unfolding entryFrom entryOf recordFrom
-from-record s pos prev h =
-    let n : h .«non_shared» ≡ h .shared + h .«non_shared» - h .shared = omega arith in
-    λ i. record { key = take (h .shared) prev ++ take (n i) (drop (pos + 21) s); seq = h .seq; kind = h .kind; place = pos + 21 + h .«non_shared»; size = h .«value_len» }
-
 -- a step behind a key of that length meets what `record_at` answers, with the key
-pub step-met : (s : List ℕ) (end pos : ℕ) (prev : List ℕ) (r : Record) → recordOf s end pos (length prev) ≡ Met r
+pub step-met : (s : List ℕ) (end pos : ℕ) (prev : List ℕ) (r : Record) → recordAt s end pos (length prev) ≡ Met r
     → stepOf s end pos prev ≡ met (entryOf s pos prev r) (r .next)
-unfolding stepOf stepFor if_then_else_ recordFrom
-step-met s end pos prev r e =
-    let a = answered s end pos (length prev) r e in
-    let h = a .header in
-    ap (stepFor s pos prev) (a .passes)
-    ∙ rw (le-leb _ _ (a .shared))
-    (ap (λ (x : Entry). met x (pos + 21 + h .«non_shared» + h .«value_len»)) (from-record s pos prev h)
-    ∙ ap (λ (q : Record). met (entryOf s pos prev q) (q .next)) (a .made))
-
-stop-for : (s : List ℕ) (pos : ℕ) (prev : List ℕ) (q : HeaderRead) → recordFor pos (length prev) q ≡ Stopped → stepFor s pos prev q ≡ stop
-unfolding recordFor stepFor if_then_else_
-stop-for s pos prev (read.Entry h) e = rw (not-kept (leb (h .shared) (length prev)) _ e)
-stop-for s pos prev read.Bad e = refl
+unfolding stepOf stepFor
+step-met s end pos prev r e = ap (stepFor s pos prev) e
 
 -- and stops where `record_at` stops
-pub step-stop : (s : List ℕ) (end pos : ℕ) (prev : List ℕ) → recordOf s end pos (length prev) ≡ Stopped → stepOf s end pos prev ≡ stop
-unfolding recordOf stepOf
-step-stop s end pos prev e = stop-for s pos prev (headerOf s end pos) e
-
--- conversely an entry that is met is a record that `record_at` answers
-pub met-record : (s : List ℕ) (end pos : ℕ) (prev : List ℕ) (e : Entry) (next : ℕ) → stepOf s end pos prev ≡ met e next
-    → (r : Record) × (recordOf s end pos (length prev) ≡ Met r) × (entryOf s pos prev r ≡ e) × (r .next ≡ next)
-met-record s end pos prev e next t = go (recordOf s end pos (length prev)) refl
-  where
-    go : (q : Stepped) → recordOf s end pos (length prev) ≡ q
-        → (r : Record) × (recordOf s end pos (length prev) ≡ Met r) × (entryOf s pos prev r ≡ e) × (r .next ≡ next)
-    go (Met r) p = let q = sym (step-met s end pos prev r p) ∙ t in (r, p, cc, cc)
-    go Stopped p = let q = sym (step-stop s end pos prev p) ∙ t in absurd (let z : _≡_ {A = ℕ} 0 1 = cc in omega arith)
-
--- and `record_at` stops where a step does
-pub stop-record : (s : List ℕ) (end pos : ℕ) (prev : List ℕ) → stepOf s end pos prev ≡ stop → recordOf s end pos (length prev) ≡ Stopped
-stop-record s end pos prev t = go (recordOf s end pos (length prev)) refl
-  where
-    go : (q : Stepped) → recordOf s end pos (length prev) ≡ q → recordOf s end pos (length prev) ≡ Stopped
-    go (Met r) p = let q = sym (step-met s end pos prev r p) ∙ t in absurd (let z : _≡_ {A = ℕ} 0 1 = cc in omega arith)
-    go Stopped p = p
+pub step-stop : (s : List ℕ) (end pos : ℕ) (prev : List ℕ) → recordAt s end pos (length prev) ≡ Stopped → stepOf s end pos prev ≡ stop
+unfolding stepOf stepFor
+step-stop s end pos prev e = ap (stepFor s pos prev) e
 
 -- ---- a step that meets an entry
 
@@ -140,42 +100,45 @@ pub record Moved (s : List ℕ) (end pos : ℕ) (prev : List ℕ) (e : Entry) (n
   pub forward : pos < next
   pub within : next ≤ end
 
-taken : (b : Bool) (x e : Entry) (n m : ℕ) → if_then_else_ b (met x n) stop ≡ met e m → (b ≡ true) × (x ≡ e) × (n ≡ m)
-unfolding if_then_else_
-taken true x e n m p = (refl, cc, cc)
-taken false x e n m p = absurd (let z : _≡_ {A = ℕ} 0 1 = cc in omega arith)
-
-moved-for : (s : List ℕ) (end pos : ℕ) (prev : List ℕ) (e : Entry) (next : ℕ) (q : HeaderRead)
-    → headerOf s end pos ≡ q → stepFor s pos prev q ≡ met e next → Moved s end pos prev e next
-unfolding stepFor entryFrom
-moved-for s end pos prev e next (read.Entry h) p t =
-    let k = taken _ _ e _ next t in
-    let f = entry-exactly s end pos h .0 p in
+made-moved : (s : List ℕ) (end pos : ℕ) (prev : List ℕ) (h : EntryHeader) → SoundEntry s end pos h → h .shared ≤ length prev
+    → Moved s end pos prev (entryOf s pos prev (recordFrom pos h)) (recordFrom pos h .next)
+unfolding entryOf recordFrom
+made-moved s end pos prev h f l =
     let n = f .«non_shared» in
     let i = f .inside in
-    let l : h .shared ≤ length prev = leb-true _ _ (k .0) in
     let m = f .shared in
-    subst (λ (x : Entry). Moved s end pos prev x next) (k .1)
-    (subst (Moved s end pos prev (entryFrom s pos prev h)) (k .2)
-    (record {
+    let own : h .shared + h .«non_shared» - h .shared ≡ leAt s (pos + 5) 4 = omega arith in
+    record {
       kind = f .kind;
       seq = f .seq;
       size = f .«value_len»;
       tombstone-empty = f .tombstone-empty;
       shared = omega arith;
-      key = rw (n, m);
+      key = λ j. take (sym m j) prev ++ take (own j) (drop (pos + 21) s);
       place = omega arith;
       behind = omega arith;
       value-inside = i;
       next-place = refl;
       forward = omega arith;
       within = i;
-    }))
-moved-for s end pos prev e next read.Bad p t = absurd (let z : _≡_ {A = ℕ} 0 1 = cc in omega arith)
+    }
+
+moved-for : (s : List ℕ) (end pos : ℕ) (prev : List ℕ) (e : Entry) (next : ℕ) (q : Stepped)
+    → recordAt s end pos (length prev) ≡ q → stepFor s pos prev q ≡ met e next → Moved s end pos prev e next
+unfolding stepFor
+moved-for s end pos prev e next (Met r) p t =
+    let a = answered s end pos (length prev) r p in
+    let x : entryOf s pos prev r ≡ e = cc in
+    let y : r .next ≡ next = cc in
+    subst (λ (z : Entry). Moved s end pos prev z next) x
+    (subst (Moved s end pos prev (entryOf s pos prev r)) y
+    (subst (λ (z : Record). Moved s end pos prev (entryOf s pos prev z) (z .next)) (a .made)
+    (made-moved s end pos prev (a .header) (entry-exactly s end pos (a .header) .0 (a .passes)) (a .shared))))
+moved-for s end pos prev e next Stopped p t = absurd (let z : _≡_ {A = ℕ} 0 1 = cc in omega arith)
 
 pub step-moved : (s : List ℕ) (end pos : ℕ) (prev : List ℕ) (e : Entry) (next : ℕ) → stepOf s end pos prev ≡ met e next → Moved s end pos prev e next
 unfolding stepOf
-step-moved s end pos prev e next t = moved-for s end pos prev e next (headerOf s end pos) refl t
+step-moved s end pos prev e next t = moved-for s end pos prev e next (recordAt s end pos (length prev)) refl t
 
 -- the key is as long as its two lengths say, in data that reach to the end of the entries
 pub key-length : (s : List ℕ) (end pos : ℕ) (prev : List ℕ) (e : Entry) (next : ℕ) → end ≤ length s → stepOf s end pos prev ≡ met e next
@@ -205,17 +168,3 @@ pub key-copied : (scratch prev new : List ℕ) (shared : ℕ) → take (length p
 key-copied scratch prev new shared e h l =
     take-sets scratch new shared l
     ∙ ap (λ (x : List ℕ). x ++ new) (sym (take-take shared (length prev) scratch h) ∙ ap (take shared) e)
-
--- the same of a record that `record_at` answers
-pub record-copied : (s : List ℕ) (end pos : ℕ) (prev scratch : List ℕ) (r : Record) → end ≤ length s → recordOf s end pos (length prev) ≡ Met r
-    → take (length prev) scratch ≡ prev → r .«key_len» ≤ length scratch
-    → take (r .«key_len») (sets scratch (r .shared) (take (r .«key_len» - r .shared) (drop (pos + 21) s))) ≡ entryOf s pos prev r .key
-unfolding entryOf
-record-copied s end pos prev scratch r h a e l =
-    let i = record-inside s end pos (length prev) r a in
-    let new = take (r .«key_len» - r .shared) (drop (pos + 21) s) in
-    let d : r .«key_len» - r .shared ≤ length (drop (pos + 21) s) = rw length-drop (omega arith) in
-    let m : length new ≡ r .«key_len» - r .shared = length-take-le _ (drop (pos + 21) s) d in
-    let n : r .shared + length new ≡ r .«key_len» = omega arith in
-    ap (λ (k : ℕ). take k (sets scratch (r .shared) new)) (sym n)
-    ∙ key-copied scratch prev new (r .shared) e (i .shared) (omega arith)

@@ -1,4 +1,4 @@
 pub mod Verify
-pub mod Header
+pub mod EntryHeader
 pub mod Record
 pub mod Walk

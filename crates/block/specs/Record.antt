@@ -2,16 +2,17 @@
 use Prim.Native.Nat.{ℕ, _+_}
 use mathlib.Core.List.{List}
 use lib.Dec.{leb}
-use Rattle.num.specs.Choice.{if_then_else_}
+use Rattle.num.specs.Choice.{if_then_else_, ask_otherwise_then_}
 use Rattle.block.specs.declared.EntryHeader.{EntryHeader}
-use Rattle.block.specs.declared.HeaderRead.{HeaderRead}
-use Rattle.block.specs.declared.HeaderRead.the-variants.{Entry, Bad}
+use Rattle.block.specs.declared.EntryRead.{EntryRead}
+use Rattle.block.specs.declared.EntryRead.the-variants.{Read, Bad}
 use Rattle.block.specs.declared.Record.{Record}
 use Rattle.block.specs.declared.Stepped.{Stepped}
 use Rattle.block.specs.declared.Stepped.the-variants.{Met, Stopped}
-use Rattle.block.specs.Header.{headerOf}
+use Rattle.block.specs.EntryHeader.{entryHeaderOf}
 
--- the length of the key, the place of the value, and the place behind the record
+-- A record's numbers, at a place of a block: kind and sequence; how many bytes its key shares with the previous key, and how many it
+-- has in all; the place and the length of its value; and the place of the next record.
 unfoldable pub recordFrom : ℕ → EntryHeader → Record
 recordFrom pos h =
     record {
@@ -25,19 +26,22 @@ recordFrom pos h =
     }
 
 -- does it share no more than the length of the previous key?
-unfoldable pub recordFor : ℕ → ℕ → HeaderRead → Stepped
-recordFor pos keyLen (Entry h) = if leb (h .shared) keyLen then Met (recordFrom pos h) else Stopped
-recordFor pos keyLen Bad = Stopped
+unfoldable pub recordAtFor : ℕ → ℕ → EntryRead → Stepped
+recordAtFor pos keyLen (Read h) =
+    ask leb (h .shared) keyLen otherwise Stopped then
+    Met (recordFrom pos h)
+recordAtFor pos keyLen Bad = Stopped
 
-unfoldable pub recordOf : List ℕ → ℕ → ℕ → ℕ → Stepped
-recordOf s end pos keyLen = recordFor pos keyLen (headerOf s end pos)
+-- the record at a place before the end of the entries, behind a key of a length
+unfoldable pub recordAt : List ℕ → ℕ → ℕ → ℕ → Stepped
+recordAt s end pos keyLen = recordAtFor pos keyLen (entryHeaderOf s end pos)
 
--- the number of the question that is answered by no, 0 if none is
+-- the number of the question that is answered with no, 0 if none is
 unfoldable pub steppedNumber : Stepped → ℕ
 steppedNumber (Met r) = 0
 steppedNumber Stopped = 13
 
--- names all definitions of this file: `unfolding record-defs` opens them
-unfoldable pub record-defs : ℕ
-unfolding recordFrom recordFor recordOf steppedNumber if_then_else_
-record-defs = 0
+-- for proofs alone: `unfolding record-at-defs` opens the definitions of this file
+unfoldable pub record-at-defs : ℕ
+unfolding recordFrom recordAtFor recordAt steppedNumber if_then_else_
+record-at-defs = 0

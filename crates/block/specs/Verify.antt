@@ -6,7 +6,7 @@ use mathlib.Core.List.{List}
 use mathlib.Core.Bool.{Bool, true, false}
 use lib.Dec.{leb, ltb, eqb}
 use lib.ListN.{length, getD, take}
-use Rattle.num.specs.Choice.{both, either}
+use Rattle.num.specs.Choice.{if_then_else_, ask_otherwise_then_, both, either}
 use Rattle.num.specs.Number.{leAt}
 use Rattle.crc32.specs.V42.{crcOf}
 use Rattle.block.specs.declared.BlockMeta.{BlockMeta}
@@ -29,7 +29,7 @@ restartAt raw start i = leAt raw (start + 4 * i) 4
 unfoldable pub restartSound : List ℕ → ℕ → ℕ → Bool
 restartSound raw end i = both (ltb (restartAt raw end i) end) (either (eqb i 0) (ltb (restartAt raw end (i - 1)) (restartAt raw end i)))
 
--- are the first restart offsets, as many as the count says?
+-- the same of all restart offsets before a count
 unfoldable pub restartsSound : List ℕ → ℕ → ℕ → Bool
 restartsSound raw end zero = true
 restartsSound raw end (suc i) = both (restartsSound raw end i) (restartSound raw end i)
@@ -37,29 +37,24 @@ restartsSound raw end (suc i) = both (restartsSound raw end i) (restartSound raw
 unfoldable pub metaOf : List ℕ → BlockMeta
 metaOf raw = record { «entries_end» = entriesEndIn raw; «restart_start» = entriesEndIn raw; «num_restarts» = restartsIn raw }
 
--- what follows a test: unsound unless it is passed
-unfoldable pub soundIf : Bool → Verified → Verified
-soundIf true v = v
-soundIf false v = Unsound
-
 -- from the number of restart offsets on
 unfoldable pub restartsVerified : List ℕ → Verified
 restartsVerified raw =
-    soundIf (ltb 0 (restartsIn raw))
-    (soundIf (leb (4 * restartsIn raw) (length raw - 9))
-    (soundIf (leb 21 (entriesEndIn raw))
-    (soundIf (restartsSound raw (entriesEndIn raw) (restartsIn raw))
-    (soundIf (eqb (restartAt raw (entriesEndIn raw) 0) 0)
-    (Sound (metaOf raw))))))
+    ask ltb 0 (restartsIn raw) otherwise Unsound then
+    ask leb (4 * restartsIn raw) (length raw - 9) otherwise Unsound then
+    ask leb 21 (entriesEndIn raw) otherwise Unsound then
+    ask restartsSound raw (entriesEndIn raw) (restartsIn raw) otherwise Unsound then
+    ask eqb (restartAt raw (entriesEndIn raw) 0) 0 otherwise Unsound then
+    Sound (metaOf raw)
 
 unfoldable pub verifyOf : List ℕ → Verified
 verifyOf raw =
-    soundIf (leb (21 + 4 + 4 + 5) (length raw))
-    (soundIf (eqb (getD raw (length raw - 5) 0) 0)
-    (soundIf (eqb (leAt raw (length raw - 4) 4) (crcOf (take (length raw - 4) raw)))
-    (restartsVerified raw)))
+    ask leb (21 + 4 + 4 + 5) (length raw) otherwise Unsound then
+    ask eqb (getD raw (length raw - 5) 0) 0 otherwise Unsound then
+    ask eqb (leAt raw (length raw - 4) 4) (crcOf (take (length raw - 4) raw)) otherwise Unsound then
+    restartsVerified raw
 
--- the number of the question that is answered by no, 0 if none is
+-- the number of the question that is answered with no, 0 if none is
 unfoldable pub verifiedNumber : Verified → ℕ
 verifiedNumber (Sound m) = 0
 verifiedNumber Unsound = 12
@@ -78,7 +73,7 @@ pub record SoundBlock (raw : List ℕ) (m : BlockMeta) : Type 0 where
   pub rising : (i j : ℕ) → i < j → j < m .«num_restarts» → restartAt raw (m .«entries_end») i < restartAt raw (m .«entries_end») j
   pub first : restartAt raw (m .«entries_end») 0 ≡ 0
 
--- names all definitions of this file: `unfolding verify-defs` opens them
+-- for proofs alone: `unfolding verify-defs` opens the definitions of this file
 unfoldable pub verify-defs : ℕ
-unfolding restartsIn entriesEndIn restartAt restartSound restartsSound metaOf soundIf restartsVerified verifyOf verifiedNumber
+unfolding restartsIn entriesEndIn restartAt restartSound restartsSound metaOf restartsVerified verifyOf verifiedNumber if_then_else_
 verify-defs = 0

@@ -4,16 +4,15 @@ use mathlib.Core.List.{List, [], _∷_, _++_}
 use mathlib.Core.Bool.{true, false}
 use lib.Dec.{leb}
 use lib.ListN.{length, take, drop}
-use Rattle.num.specs.Choice.{if_then_else_}
 use Rattle.sstable.specs.declared.Kind.{Kind}
-use Rattle.block.specs.declared.EntryHeader.{EntryHeader}
-use Rattle.block.specs.declared.HeaderRead.{HeaderRead}
-use Rattle.block.specs.declared.HeaderRead.the-variants as read
 use Rattle.block.specs.declared.Record.{Record}
-use Rattle.block.specs.Header.{headerOf}
+use Rattle.block.specs.declared.Stepped.{Stepped}
+use Rattle.block.specs.declared.Stepped.the-variants.{Met, Stopped}
+use Rattle.block.specs.Record.{recordAt}
 use Rattle.block.specs.Verify.{entriesEndIn}
 
--- a record: its key, its sequence, its kind, and the place in the block and the length of its value
+-- a record: its key, its sequence, its kind, and the place and the length of its value; the place counts from the block's start, and
+-- where several blocks are one list from the data's start
 pub record Entry : Type 0 where
   pub key : List ℕ
   pub seq : ℕ
@@ -26,27 +25,7 @@ pub data Step : Type 0 where
   met : Entry → ℕ → Step
   stop : Step
 
--- the key is what it shares with the previous key, then its own bytes
-unfoldable pub entryFrom : List ℕ → ℕ → List ℕ → EntryHeader → Entry
-entryFrom s pos prev h =
-    record {
-      key = take (h .shared) prev ++ take (h .«non_shared») (drop (pos + 21) s);
-      seq = h .seq;
-      kind = h .kind;
-      place = pos + 21 + h .«non_shared»;
-      size = h .«value_len»;
-    }
-
--- does it share no more than the length of the previous key?
-unfoldable pub stepFor : List ℕ → ℕ → List ℕ → HeaderRead → Step
-stepFor s pos prev (read.Entry h) =
-    if leb (h .shared) (length prev) then met (entryFrom s pos prev h) (pos + 21 + h .«non_shared» + h .«value_len») else stop
-stepFor s pos prev read.Bad = stop
-
-unfoldable pub stepOf : List ℕ → ℕ → ℕ → List ℕ → Step
-stepOf s end pos prev = stepFor s pos prev (headerOf s end pos)
-
--- a record that `record_at` answers, with its key
+-- a record that stands at a place, with its key: what it shares with the previous key, then its own bytes
 unfoldable pub entryOf : List ℕ → ℕ → List ℕ → Record → Entry
 entryOf s pos prev r =
     record {
@@ -57,22 +36,25 @@ entryOf s pos prev r =
       size = r .size;
     }
 
--- how a walk ended: at the end of the entries, or by the stop of question 13
-pub data Ended : Type 0 where
-  atEnd : Ended
-  stopped : Ended
+unfoldable pub stepFor : List ℕ → ℕ → List ℕ → Stepped → Step
+stepFor s pos prev (Met r) = met (entryOf s pos prev r) (r .next)
+stepFor s pos prev Stopped = stop
 
--- the number of the question that ended a walk, 0 at the end of the entries
-unfoldable pub endedNumber : Ended → ℕ
-endedNumber atEnd = 0
-endedNumber stopped = 13
+-- the step from a place, behind the previous key
+unfoldable pub stepOf : List ℕ → ℕ → ℕ → List ℕ → Step
+stepOf s end pos prev = stepFor s pos prev (recordAt s end pos (length prev))
+
+-- how a walk ended: at the end of the entries, or by the stop of question 13
+pub data WalkEnd : Type 0 where
+  atEnd : WalkEnd
+  stopped : WalkEnd
 
 -- the entries met, in order, and how the walk ended
 pub record Walk : Type 0 where
   pub entries : List Entry
-  pub ended : Ended
+  pub ended : WalkEnd
 
-unfoldable pub noEntries : Ended → Walk
+unfoldable pub noEntries : WalkEnd → Walk
 noEntries how = record { entries = []; ended = how }
 
 unfoldable pub entryThen : Entry → Walk → Walk
@@ -95,7 +77,7 @@ walkAt s end pos prev = walkFrom (suc (end - pos)) s end pos prev
 unfoldable pub recordsOf : List ℕ → Walk
 recordsOf raw = walkAt raw (entriesEndIn raw) 0 []
 
--- names all definitions of this file: `unfolding walk-defs` opens them
-unfoldable pub walk-defs : ℕ
-unfolding entryFrom stepFor stepOf entryOf endedNumber noEntries entryThen walkFrom walkAt recordsOf if_then_else_
-walk-defs = 0
+-- for proofs alone: `unfolding block-walk-defs` opens the definitions of this file
+unfoldable pub block-walk-defs : ℕ
+unfolding entryOf stepFor stepOf noEntries entryThen walkFrom walkAt recordsOf
+block-walk-defs = 0

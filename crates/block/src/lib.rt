@@ -6,8 +6,8 @@ ghost use lib.ListN.{length, take, drop};
 ghost use lib.Seq.{sets};
 ghost use Rattle.crc32.specs.Table.{isTable};
 ghost use Rattle.block.specs.Verify.{restartAt, restartSound, restartsSound, restartsVerified, verifyOf};
-ghost use Rattle.block.specs.Header.{numbersAt, valueAllowed, headerFor, headerOf};
-ghost use Rattle.block.specs.Record.{recordOf};
+ghost use Rattle.block.specs.EntryHeader.{numbersAt, valueAllowed, entryHeaderFor, entryHeaderOf};
+ghost use Rattle.block.specs.Record.{recordAt};
 use sstable::Kind;
 use sstable::KindRead;
 
@@ -32,8 +32,9 @@ pub struct EntryHeader {
     pub value_len: usize,
 }
 
-pub enum HeaderRead {
-    Entry(EntryHeader),
+// The numbers of an entry that passes `header_at`.
+pub enum EntryRead {
+    Read(EntryHeader),
     Bad,
 }
 
@@ -167,34 +168,34 @@ fn entry_numbers(data: &[u8], pos: usize, kind: Kind) -> EntryHeader
     }
 }
 
-fn entry_inside(entries_end: usize, pos: usize, h: EntryHeader) -> HeaderRead
+fn entry_inside(entries_end: usize, pos: usize, h: EntryHeader) -> EntryRead
     requires { ⌜ pos + 21 ≤ «entries_end» ⌝ }
-    ensures { λ r. ⌜ r ≡ headerFor «entries_end» pos h ⌝ }
+    ensures { λ r. ⌜ r ≡ entryHeaderFor «entries_end» pos h ⌝ }
 {
     let kind = h.kind;
     if !value_allowed(kind, h.value_len) {
-        return HeaderRead::Bad;
+        return EntryRead::Bad;
     }
     let room = entries_end - (pos + ENTRY_FIXED_LEN);
     if room < h.non_shared {
-        return HeaderRead::Bad;
+        return EntryRead::Bad;
     }
     if room - h.non_shared < h.value_len {
-        return HeaderRead::Bad;
+        return EntryRead::Bad;
     }
-    HeaderRead::Entry(h)
+    EntryRead::Read(h)
 }
 
 // Question 13 of an entry alone: its header, its kind, and its key and value.
-pub fn header_at(data: &[u8], entries_end: usize, pos: usize) -> HeaderRead
+pub fn header_at(data: &[u8], entries_end: usize, pos: usize) -> EntryRead
     requires { ⌜ «entries_end» ≤ length (now «data») ⌝ }
-    ensures { λ r. ⌜ r ≡ headerOf (now («data» .entry)) «entries_end» pos ⌝ }
+    ensures { λ r. ⌜ r ≡ entryHeaderOf (now («data» .entry)) «entries_end» pos ⌝ }
 {
     if entries_end < ENTRY_FIXED_LEN {
-        return HeaderRead::Bad;
+        return EntryRead::Bad;
     }
     if entries_end - ENTRY_FIXED_LEN < pos {
-        return HeaderRead::Bad;
+        return EntryRead::Bad;
     }
     let read = Kind::from_u8(data[pos]);
     match read {
@@ -202,18 +203,18 @@ pub fn header_at(data: &[u8], entries_end: usize, pos: usize) -> HeaderRead
             let h = entry_numbers(data, pos, kind);
             entry_inside(entries_end, pos, h)
         }
-        KindRead::Unknown => HeaderRead::Bad,
+        KindRead::Unknown => EntryRead::Bad,
     }
 }
 
 // The record at a place, behind a key of the given length.
 pub fn record_at(data: &[u8], entries_end: usize, pos: usize, key_len: usize) -> Stepped
     requires { ⌜ «entries_end» ≤ length (now «data») ⌝ }
-    ensures { λ r. ⌜ r ≡ recordOf (now («data» .entry)) «entries_end» pos «key_len» ⌝ }
+    ensures { λ r. ⌜ r ≡ recordAt (now («data» .entry)) «entries_end» pos «key_len» ⌝ }
 {
     let read = header_at(data, entries_end, pos);
     match read {
-        HeaderRead::Entry(h) => {
+        EntryRead::Read(h) => {
             if h.shared <= key_len {
                 let kind = h.kind;
                 let place = pos + ENTRY_FIXED_LEN + h.non_shared;
@@ -230,7 +231,7 @@ pub fn record_at(data: &[u8], entries_end: usize, pos: usize, key_len: usize) ->
                 Stepped::Stopped
             }
         }
-        HeaderRead::Bad => Stepped::Stopped,
+        EntryRead::Bad => Stepped::Stopped,
     }
 }
 

@@ -30,7 +30,7 @@ unfoldable pub isTable : List (List ℕ) → Bool
 isTable [] = false
 isTable (r ∷ rs) = both (eqb (length rs) 7) (both (eqb (length r) 256) (both (isFirst 0 r) (areNext r r rs)))
 
--- names all definitions of this file: `unfolding table-defs` opens them
+-- for proofs alone: `unfolding table-defs` opens the definitions of this file
 unfoldable pub table-defs : ℕ
 unfolding isFirst isNext areNext isTable
 table-defs = 0

@@ -75,7 +75,7 @@ updateOf state s = numberOf (sumOfRemainders (bitsOf 32 state) (content s))
 unfoldable pub finalizeOf : ℕ → ℕ
 finalizeOf state = numberOf (map not (bitsOf 32 state))
 
--- names all definitions of this file: `unfolding crc-defs` opens them
+-- for proofs alone: `unfolding crc-defs` opens the definitions of this file
 unfoldable pub crc-defs : ℕ
 unfolding sum add timesPower polynomial generator divisionSteps remainder bitsOf content numberOf sumOfRemainders crcOf updateOf finalizeOf
 crc-defs = 0

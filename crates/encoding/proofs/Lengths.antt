@@ -9,15 +9,15 @@ use Rattle.num.specs.Choice.{if_then_else_, either, oneOf}
 use Rattle.num.proofs.Choice.{if-case}
 use Rattle.encoding.specs.declared.Totals.{Totals}
 use Rattle.encoding.specs.declared.Encoding.{Encoding}
-use Rattle.encoding.specs.Encoding.{Widths, Bounded, keyHeaderOf, versionOf, arenaLenOf, scanLenOf, sectionLenOf, arenaStartOf, bucketsOf, encodingWith, encodingOf}
+use Rattle.encoding.specs.Encoding.{Widths, Bounded, keyHeaderLenOf, versionLenOf, arenaLenOf, scanLenOf, sectionLenOf, arenaStartOf, bucketsOf, encodingWith, encodingOf}
 use Rattle.encoding.proofs.Widths.{widths-le, encodingWith-widths, addressWidthOf-case}
 
-key-header-le : (e : Encoding) → Widths e → keyHeaderOf e ≤ 20
-unfolding keyHeaderOf
+key-header-le : (e : Encoding) → Widths e → keyHeaderLenOf e ≤ 20
+unfolding keyHeaderLenOf
 key-header-le e w = let h = widths-le e w in omega arith
 
-version-le : (e : Encoding) → Widths e → versionOf e ≤ 24
-unfolding versionOf
+version-le : (e : Encoding) → Widths e → versionLenOf e ≤ 24
+unfolding versionLenOf
 version-le e w =
     let h = widths-le e w in
     let c : if_then_else_ (e .checksum) 4 0 ≤ 4 = if-case (λ n. n ≤ 4) (e .checksum) 4 0 (λ _. omega arith) (λ _. omega arith) in
@@ -31,8 +31,8 @@ product-le n k b h l = mul-le-mul h l
 pub arena-len-le : (e : Encoding) (t : Totals) → Widths e → Bounded t → arenaLenOf e t ≤ 45 * 2 ^ 30
 unfolding arenaLenOf
 arena-len-le e t w b =
-    let h = product-le (t .keys) (keyHeaderOf e) 20 (b .keys) (key-header-le e w) in
-    let v = product-le (t .versions) (versionOf e) 24 (b .versions) (version-le e w) in
+    let h = product-le (t .keys) (keyHeaderLenOf e) 20 (b .keys) (key-header-le e w) in
+    let v = product-le (t .versions) (versionLenOf e) 24 (b .versions) (version-le e w) in
     omega arith
 
 scan-len-le : (e : Encoding) (t : Totals) (prefix : ℕ) → Widths e → Bounded t → scanLenOf e t prefix ≤ 8 * 2 ^ 30 + 32

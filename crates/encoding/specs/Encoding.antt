@@ -51,7 +51,7 @@ group = 1024
 unfoldable pub widthOf : ℕ → ℕ
 widthOf max = if leb max 255 then 1 else if leb max 65535 then 2 else if leb max 4294967295 then 4 else 8
 
--- the width of value lengths up to max with a bit above them
+-- the width of value lengths up to max, with the top bit left for tombstones
 unfoldable pub valueWidthOf : ℕ → ℕ
 valueWidthOf max = if ltb max 32768 then 2 else 4
 
@@ -74,16 +74,16 @@ pub record Bounded (t : Totals) : Type 0 where
   pub seqs : t .«min_seq» ≤ t .«max_seq»
 
 -- the bytes of a key record before its suffix: anchor, shared length, suffix length, number of versions
-unfoldable pub keyHeaderOf : Encoding → ℕ
-keyHeaderOf e = e .address + 2 * e .key + e .count
+unfoldable pub keyHeaderLenOf : Encoding → ℕ
+keyHeaderLenOf e = e .address + 2 * e .key + e .count
 
 -- the bytes of a version: sequence, value length, value offset, and the CRC-32 with checksums
-unfoldable pub versionOf : Encoding → ℕ
-versionOf e = e .seq + e .value + e .address + (if e .checksum then 4 else 0)
+unfoldable pub versionLenOf : Encoding → ℕ
+versionLenOf e = e .seq + e .value + e .address + (if e .checksum then 4 else 0)
 
 -- the bytes of all key records
 unfoldable pub arenaLenOf : Encoding → Totals → ℕ
-arenaLenOf e t = t .keys * keyHeaderOf e + t .«suffix_bytes» + t .versions * versionOf e
+arenaLenOf e t = t .keys * keyHeaderLenOf e + t .«suffix_bytes» + t .versions * versionLenOf e
 
 -- the number of buckets: half the keys, rounded up (question 4)
 unfoldable pub bucketsOf : ℕ → ℕ
@@ -105,7 +105,7 @@ sectionLenOf e t prefix = arenaStartOf (t .keys) (e .address) + arenaLenOf e t +
 unfoldable pub tombstoneOf : Encoding → ℕ
 tombstoneOf e = 2 ^ (8 * e .value - 1)
 
--- addresses and value offsets have 8 bytes if the arena with 4 or the last offset goes beyond 4
+-- addresses and value offsets have 8 bytes if the arena's length, counted with addresses of 4, or the last offset needs more than 4
 unfoldable pub addressWidthOf : ℕ → ℕ → ℕ
 addressWidthOf arena last = if either (ltb 4294967295 arena) (ltb 4294967295 last) then 8 else 4
 
@@ -125,7 +125,7 @@ encodingWith address t =
 unfoldable pub encodingOf : Totals → Encoding
 encodingOf t = encodingWith (addressWidthOf (arenaLenOf (encodingWith 4 t) t) (t .«last_value_offset»)) t
 
--- names all definitions of this file: `unfolding encoding-defs` opens them
+-- for proofs alone: `unfolding encoding-defs` opens the definitions of this file
 unfoldable pub encoding-defs : ℕ
-unfolding magic scanMagic widthOf valueWidthOf keyHeaderOf versionOf arenaLenOf bucketsOf arenaStartOf scanLenOf sectionLenOf tombstoneOf addressWidthOf encodingWith encodingOf if_then_else_ either
+unfolding magic scanMagic widthOf valueWidthOf keyHeaderLenOf versionLenOf arenaLenOf bucketsOf arenaStartOf scanLenOf sectionLenOf tombstoneOf addressWidthOf encodingWith encodingOf if_then_else_ either
 encoding-defs = 0

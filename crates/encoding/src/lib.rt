@@ -7,8 +7,8 @@ ghost use Rattle.encoding.specs.Encoding.{
   valueWidthOf,
   addressWidthOf,
   encodingOf,
-  keyHeaderOf,
-  versionOf,
+  keyHeaderLenOf,
+  versionLenOf,
   arenaLenOf,
   scanLenOf,
   sectionLenOf,
@@ -114,7 +114,7 @@ impl Encoding {
     // The bytes of a key record before its suffix.
     pub fn key_header(self) -> usize
         requires { ⌜ Widths self ⌝ }
-        ensures { λ r. ⌜ r ≡ keyHeaderOf self ⌝ }
+        ensures { λ r. ⌜ r ≡ keyHeaderLenOf self ⌝ }
     {
         self.address + 2 * self.key + self.count
     }
@@ -122,7 +122,7 @@ impl Encoding {
     // The bytes of a version.
     pub fn version(self) -> usize
         requires { ⌜ Widths self ⌝ }
-        ensures { λ r. ⌜ r ≡ versionOf self ⌝ }
+        ensures { λ r. ⌜ r ≡ versionLenOf self ⌝ }
     {
         if self.checksum {
             self.seq + self.value + self.address + 4

@@ -10,7 +10,7 @@ use Rattle.num.proofs.Choice.{true-both, both-no, both-yes, if-true, if-false}
 use Rattle.encoding.specs.Encoding.{trailerLen, scanFlag}
 use Rattle.header.specs.declared.Opened.{Opened}
 use Rattle.header.specs.declared.HeaderRead.the-variants.{Accepted, Refused}
-use Rattle.header.specs.Header.{begins, flagsOf, hasFlag, fieldsOf, dimensions, arenaBelow, scanFlagged, scanPlaceOf, scanPart, scanSettings, withScan, scannedOf, headerOf, fitsPacked, packedRecord, sameRecord, packedOf}
+use Rattle.header.specs.Header.{begins, flagsOf, hasFlag, fieldsOf, dimensions, arenaBelow, scanFlagged, scanPlaceOf, scanPart, scanSettings, withScan, scannedOf, headerOf}
 
 -- questions 5 and 6
 module _ (s : List ℕ) (o : Opened) (place : ℕ) (q : place ≡ scanPlaceOf s o) where
@@ -31,7 +31,7 @@ module _ (s : List ℕ) (o : Opened) (place : ℕ) (q : place ≡ scanPlaceOf s 
 
 -- questions 3 and 4, and whether 5 and 6 are asked
 module _ (s : List ℕ) (o : Opened) (flags : ℕ) (e : o ≡ fieldsOf s) (f : flags ≡ flagsOf s) where
-  sizes : (t : Bool) → dimensions o flags ≡ t → dimensions (fieldsOf s) (flagsOf s) ≡ t
+  pub sizes : (t : Bool) → dimensions o flags ≡ t → dimensions (fieldsOf s) (flagsOf s) ≡ t
   sizes t d = ap₂ dimensions (sym e) (sym f) ∙ d
 
   above : length s - trailerLen ≤ o .arena → arenaBelow s (fieldsOf s) ≡ false
@@ -69,32 +69,3 @@ module _ (s : List ℕ) (o : Opened) (flags : ℕ) (e : o ≡ fieldsOf s) (f : f
   unfolding headerOf
   header-unscanned b d h t =
       ap Accepted e ∙ sym (if-true _ _ _ b ∙ if-true _ _ _ (true-both _ _ (sizes true d) (below h)) ∙ if-false _ _ _ (flagged false t))
-
--- question 24 of a packed record
-module _ (s : List ℕ) (o found : Opened) (flags : ℕ) (e : found ≡ fieldsOf s) (f : flags ≡ flagsOf s) where
-  pub packed-3 : begins s ≡ false → false ≡ packedOf s o
-  unfolding packedOf
-  packed-3 b = both-no _ _ b
-
-  pub packed-4 : begins s ≡ true → dimensions found flags ≡ false → false ≡ packedOf s o
-  unfolding packedOf
-  packed-4 b d = both-yes _ _ _ b (both-no _ _ (sizes s found flags e f false d))
-
-  pub packed-7 : begins s ≡ true → dimensions found flags ≡ true → fitsPacked found ≡ false → false ≡ packedOf s o
-  unfolding packedOf
-  packed-7 b d p = both-yes _ _ _ b (both-yes _ _ _ (sizes s found flags e f true d) (both-no _ _ (ap fitsPacked (sym e) ∙ p)))
-
-  module _ (packed : Opened) (g : packed ≡ packedRecord found) where
-    pub packed-length : begins s ≡ true → dimensions found flags ≡ true → fitsPacked found ≡ true → length s - trailerLen ≤ packed .arena → false ≡ packedOf s o
-    unfolding packedOf arenaBelow
-    packed-length b d p h =
-        both-yes _ _ _ b (both-yes _ _ _ (sizes s found flags e f true d) (both-yes _ _ _ (ap fitsPacked (sym e) ∙ p)
-        (both-no _ _ (ap (arenaBelow s) (ap packedRecord (sym e) ∙ sym g) ∙ le-ltb (packed .arena) (length s - trailerLen) h))))
-
-    pub packed-same : begins s ≡ true → dimensions found flags ≡ true → fitsPacked found ≡ true → packed .arena < length s - trailerLen
-        → sameRecord packed o ≡ packedOf s o
-    unfolding packedOf arenaBelow
-    packed-same b d p h =
-        both-yes _ _ _ b (both-yes _ _ _ (sizes s found flags e f true d) (both-yes _ _ _ (ap fitsPacked (sym e) ∙ p)
-        (both-yes _ _ _ (ap (arenaBelow s) (ap packedRecord (sym e) ∙ sym g) ∙ lt-ltb (packed .arena) (length s - trailerLen) h)
-        (ap (λ (r : Opened). sameRecord r o) (g ∙ ap packedRecord e)))))

@@ -14,7 +14,7 @@ use Rattle.num.proofs.Parts.{entry-inside}
 use Rattle.encoding.specs.Encoding.{trailerLen, headerLen, scanHeaderLen, bucketsOf, arenaStartOf}
 use Rattle.header.specs.declared.Opened.{Opened}
 use Rattle.header.specs.Header.{scanFlagged, scanPartLen, packedRecord, arenaEnd}
-use Rattle.header.specs.Facts.{Dimensions, Scan, Header, PackedHeader, IsRecord, plain, packed}
+use Rattle.header.specs.Facts.{Dimensions, Scan, Header, PackedHeader, IsRecord, fromPlain, fromPacked}
 
 -- a product of a number of keys and a width
 pub product-le : (n k b : ℕ) → n < 2 ^ 31 → k ≤ b → n * k ≤ 2 ^ 31 * b
@@ -85,15 +85,15 @@ module _ (s : List ℕ) (o : Opened) (h : PackedHeader s o) where
 -- the arena's start is before its end, and the end is not in the last five bytes
 pub arena-end : (s : List ℕ) (o : Opened) → IsRecord s o → (o .arena < arenaEnd s o) × (arenaEnd s o ≤ length s - trailerLen)
 unfolding arenaEnd
-arena-end s o (plain h) =
+arena-end s o (fromPlain h) =
     if-case (λ n. (o .arena < n) × (n ≤ length s - trailerLen)) (eqb (o .scan) 0) _ _
     (λ _. (h .below, omega arith))
     (λ f. let k = scan-part s o h (eqb-false (o .scan) 0 f) in (k .after, omega (arith, k .place)))
-arena-end s o (packed h) =
+arena-end s o (fromPacked h) =
     if-case (λ n. (o .arena < n) × (n ≤ length s - trailerLen)) (eqb (o .scan) 0) _ _
     (λ _. (h .below, omega arith))
     (λ f. absurd (eqb-false (o .scan) 0 f (packed-unscanned s o h)))
 
 pub record-dimensions : (s : List ℕ) (o : Opened) → IsRecord s o → Dimensions o
-record-dimensions s o (plain h) = h .dimensions
-record-dimensions s o (packed h) = h .dimensions
+record-dimensions s o (fromPlain h) = h .dimensions
+record-dimensions s o (fromPacked h) = h .dimensions

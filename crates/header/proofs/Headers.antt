@@ -1,9 +1,9 @@
--- A header is accepted, and a record is the one of a section, exactly if the facts of specs/Facts hold.
+-- A header is accepted exactly if the facts of specs/Facts hold.
 -- Assumes nothing.
 use mathlib.Core.Path.{_≡_, refl, sym, ap, _∙_, subst}
 use mathlib.Core.Bool.{Bool, true, false}
 use mathlib.Core.List.{List, [], _∷_}
-use Prim.Native.Nat.{ℕ, _-_, _^_, _<_}
+use Prim.Native.Nat.{ℕ, _-_, _<_, _≤_}
 use native.Mathlib.Omega.{arith}
 use lib.ListN.{length}
 use borrow.Author.Tests.{ltb-true, lt-ltb}
@@ -14,16 +14,16 @@ use Rattle.encoding.specs.Encoding.{trailerLen, arenaStartOf}
 use Rattle.header.specs.declared.Opened.{Opened}
 use Rattle.header.specs.declared.HeaderRead.{HeaderRead}
 use Rattle.header.specs.declared.HeaderRead.the-variants.{Accepted, Refused}
-use Rattle.header.specs.Header.{begins, flagsOf, fieldsOf, dimensions, arenaBelow, scanFlagged, scanPartLen, scanPlaceOf, scanPart, scanSettings, withScan, scannedOf, headerOf, fitsPacked, packedRecord, plainFor, packedOf, recordOf}
-use Rattle.header.specs.Facts.{Dimensions, Header, PackedHeader, IsRecord, plain, packed}
+use Rattle.header.specs.Header.{begins, flagsOf, fieldsOf, dimensions, arenaBelow, scanFlagged, scanPartLen, scanPlaceOf, scanPart, scanSettings, withScan, scannedOf, headerOf, fitsPacked, packedRecord}
+use Rattle.header.specs.Facts.{Dimensions, Header, PackedHeader}
 use Rattle.header.proofs.Answers.{scanned-yes, header-scanned, header-unscanned}
-use Rattle.header.proofs.Questions.{begins-yes, yes-begins, dimensions-yes, yes-dimensions, scan-yes, yes-scan, scan-place, packed-yes, yes-packed, record-same, same-record}
+use Rattle.header.proofs.Questions.{begins-yes, yes-begins, dimensions-yes, yes-dimensions, scan-yes, yes-scan, scan-place}
 
-below-yes : (s : List ℕ) (o : Opened) → arenaBelow s o ≡ true → o .arena < length s - trailerLen
+pub below-yes : (s : List ℕ) (o : Opened) → arenaBelow s o ≡ true → o .arena < length s - trailerLen
 unfolding arenaBelow
 below-yes s o e = ltb-true _ _ e
 
-yes-below : (s : List ℕ) (o : Opened) → o .arena < length s - trailerLen → arenaBelow s o ≡ true
+pub yes-below : (s : List ℕ) (o : Opened) → o .arena < length s - trailerLen → arenaBelow s o ≡ true
 unfolding arenaBelow
 yes-below s o h = lt-ltb _ _ h
 
@@ -162,78 +162,6 @@ pub header-packed : (s : List ℕ) (o : Opened) → PackedHeader s o → o .pack
 unfolding packedRecord
 header-packed s o h = ap (λ (r : Opened). r .packed) (h .numbers)
 
-plain-yes : (o : Opened) (r : HeaderRead) → plainFor r o ≡ true → r ≡ Accepted o
-unfolding plainFor
-plain-yes o (Accepted found) e = ap Accepted (record-same found o e)
-plain-yes o (Refused n) e = false-true e
-
-yes-plain : (o : Opened) (r : HeaderRead) → r ≡ Accepted o → plainFor r o ≡ true
-unfolding plainFor
-yes-plain o r e = ap (λ (r : HeaderRead). plainFor r o) e ∙ same-record o o refl
-
-packed-facts : (s : List ℕ) (o : Opened) → packedOf s o ≡ true → PackedHeader s o
-unfolding packedOf packedRecord fieldsOf
-packed-facts s o t =
-    let b = both-true _ _ t in
-    let d = both-true _ _ (b .1) in
-    let p = both-true _ _ (d .1) in
-    let l = both-true _ _ (p .1) in
-    let q = dimensions-yes (fieldsOf s) (flagsOf s) (d .0) in
-    let k = q .0 in
-    let y = packed-yes (fieldsOf s) (p .0) in
-    let e = record-same (packedRecord (fieldsOf s)) o (l .1) in
-    subst (PackedHeader s) e (record {
-      begins = begins-yes s (b .0);
-      numbers = refl;
-      dimensions = record { some = k .some; few = k .few; halved = k .halved; widths = k .widths };
-      flags = q .1;
-      plain-start = q .2;
-      below = below-yes s (packedRecord (fieldsOf s)) (l .0);
-      checksums = y .0;
-      few = y .1;
-    })
-
-module _ (s : List ℕ) (o : Opened) (h : PackedHeader s o) where
-  fields : Dimensions (fieldsOf s)
-  unfolding packedRecord
-  fields =
-      let d = subst Dimensions (h .numbers) (h .dimensions) in
-      record { some = d .some; few = d .few; halved = d .halved; widths = d .widths }
-
-  start : fieldsOf s .arena ≡ arenaStartOf (fieldsOf s .count) (fieldsOf s .encoding .address)
-  unfolding packedRecord fieldsOf
-  start = subst (λ (r : Opened). leAt s 24 8 ≡ arenaStartOf (r .count) (r .encoding .address)) (h .numbers) (h .plain-start)
-
-  fits : fitsPacked (fieldsOf s) ≡ true
-  unfolding packedRecord
-  fits =
-      subst (λ (r : Opened). r .encoding .checksum ≡ true → r .count < 2 ^ 23 → fitsPacked (fieldsOf s) ≡ true) (sym (h .numbers))
-      (yes-packed (fieldsOf s)) (h .checksums) (h .few)
-
-  facts-packed : packedOf s o ≡ true
-  unfolding packedOf
-  facts-packed =
-      true-both _ _ (yes-begins s (h .begins))
-      (true-both _ _ (yes-dimensions (fieldsOf s) (flagsOf s) fields (h .flags) start)
-      (true-both _ _ fits
-      (true-both _ _ (ap (arenaBelow s) (sym (h .numbers)) ∙ yes-below s o (h .below))
-      (same-record _ _ (sym (h .numbers))))))
-
--- a record of which question 24 is answered yes has the facts
-pub record-facts : (s : List ℕ) (o : Opened) → recordOf s o ≡ true → IsRecord s o
-unfolding recordOf if_then_else_
-record-facts s o e = go (o .packed) e
-  where
-    go : (p : Bool) → if_then_else_ p (packedOf s o) (plainFor (headerOf s) o) ≡ true → IsRecord s o
-    go true e = packed (packed-facts s o e)
-    go false e = plain (header-facts s o (plain-yes o (headerOf s) e))
-
--- and a record with the facts is answered yes
-pub facts-record : (s : List ℕ) (o : Opened) → IsRecord s o → recordOf s o ≡ true
-unfolding recordOf
-facts-record s o (plain h) = if-false _ _ _ (header-plain s o h) ∙ yes-plain o (headerOf s) (facts-header s o h)
-facts-record s o (packed h) = if-true _ _ _ (header-packed s o h) ∙ facts-packed s o h
-
--- the record that a header gave passes question 24
-pub header-record : (s : List ℕ) (o : Opened) → headerOf s ≡ Accepted o → recordOf s o ≡ true
-header-record s o e = facts-record s o (plain (header-facts s o e))
+-- the section of an accepted header has its last five bytes
+pub accepted-long : (s : List ℕ) (o : Opened) → headerOf s ≡ Accepted o → 5 ≤ length s
+accepted-long s o e = let l = header-facts s o e .begins .long in omega arith

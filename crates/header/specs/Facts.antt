@@ -65,5 +65,5 @@ pub record PackedHeader (s : List ℕ) (o : Opened) : Type 0 where
 
 -- question 24
 pub data IsRecord (s : List ℕ) (o : Opened) : Type 0 where
-  plain : Header s o → IsRecord s o
-  packed : PackedHeader s o → IsRecord s o
+  fromPlain : Header s o → IsRecord s o
+  fromPacked : PackedHeader s o → IsRecord s o

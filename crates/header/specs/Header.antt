@@ -1,10 +1,10 @@
--- The header of a section and the record of an opened one: questions 3 to 7 and 24.
+-- The header of a section and the record of an opened one: questions 3 to 7.
 use mathlib.Core.List.{List, [], _∷_}
-use mathlib.Core.Bool.{Bool, true, false, Bool·beq}
+use mathlib.Core.Bool.{Bool, true, false}
 use Prim.Native.Nat.{ℕ, _+_, _*_, _-_, _/_, _%_, _^_}
 use lib.Dec.{eqb, leb, ltb}
 use lib.ListN.{length, take, drop}
-use Rattle.num.specs.Choice.{if_then_else_, both, oneOf}
+use Rattle.num.specs.Choice.{if_then_else_, ask_otherwise_then_, both, oneOf}
 use Rattle.num.specs.Number.{leAt}
 use Rattle.num.specs.Order.{equalBytes}
 use Rattle.encoding.specs.declared.Encoding.{Encoding}
@@ -45,7 +45,10 @@ encodingAt s =
       checksum = hasFlag checksumFlag (flagsOf s);
     }
 
--- the header's numbers as a record, without a scan place (question 4)
+-- What opening keeps of a section is a record of numbers, `Opened`, here as the header gives it, without a scan place (question 4):
+-- the seed of the hashes; the least sequence, to which each stored one is added; n, the number of keys; b, the number of buckets; where
+-- the arena starts; the widths of addresses, key lengths, numbers of versions, sequences and value lengths, and whether versions have
+-- checksums; where the scan part starts, 0 without one; and whether the bytes are packed.
 unfoldable pub fieldsOf : List ℕ → Opened
 fieldsOf s =
     record {
@@ -125,22 +128,18 @@ withScan o scan =
 -- questions 5 and 6 of a section with the scan flag: the first "no" gives its number
 unfoldable pub scannedOf : List ℕ → Opened → HeaderRead
 scannedOf s o =
-    if scanPart s o
-    then if scanSettings s (scanPlaceOf s o) (o .count)
-    then Accepted (withScan o (scanPlaceOf s o))
-    else Refused 6
-    else Refused 5
+    ask scanPart s o otherwise Refused 5 then
+    ask scanSettings s (scanPlaceOf s o) (o .count) otherwise Refused 6 then
+    Accepted (withScan o (scanPlaceOf s o))
 
 -- questions 3 to 6: the first "no" gives its number, and without one the header gives the record
 unfoldable pub headerOf : List ℕ → HeaderRead
 headerOf s =
-    if begins s
-    then if both (dimensions (fieldsOf s) (flagsOf s)) (arenaBelow s (fieldsOf s))
-    then if scanFlagged s then scannedOf s (fieldsOf s) else Accepted (fieldsOf s)
-    else Refused 4
-    else Refused 3
+    ask begins s otherwise Refused 3 then
+    ask both (dimensions (fieldsOf s) (flagsOf s)) (arenaBelow s (fieldsOf s)) otherwise Refused 4 then
+    if scanFlagged s then scannedOf s (fieldsOf s) else Accepted (fieldsOf s)
 
--- the number of the question that a header fails, 0 if it fails none
+-- the number of the question that a header fails, or an opening, whose answer has the same type; 0 if it fails none
 unfoldable pub headerNumber : HeaderRead → ℕ
 headerNumber (Accepted o) = 0
 headerNumber (Refused n) = n
@@ -163,54 +162,11 @@ packedRecord o =
       packed = true;
     }
 
-unfoldable pub sameEncoding : Encoding → Encoding → Bool
-sameEncoding a b =
-    both (eqb (a .address) (b .address))
-    (both (eqb (a .key) (b .key))
-    (both (eqb (a .count) (b .count))
-    (both (eqb (a .seq) (b .seq))
-    (both (eqb (a .value) (b .value))
-    (Bool·beq (a .checksum) (b .checksum))))))
-
-unfoldable pub sameCounts : Opened → Opened → Bool
-sameCounts a b =
-    both (eqb (a .seed) (b .seed))
-    (both (eqb (a .«min_seq») (b .«min_seq»))
-    (both (eqb (a .count) (b .count))
-    (eqb (a .buckets) (b .buckets))))
-
--- are two records the same in all their numbers? (question 24)
-unfoldable pub sameRecord : Opened → Opened → Bool
-sameRecord a b =
-    both (sameCounts a b)
-    (both (sameEncoding (a .encoding) (b .encoding))
-    (both (eqb (a .arena) (b .arena))
-    (both (eqb (a .scan) (b .scan))
-    (Bool·beq (a .packed) (b .packed)))))
-
--- question 24 of a plain record: do 3 to 6 hold and give this record?
-unfoldable pub plainFor : HeaderRead → Opened → Bool
-plainFor (Accepted found) o = sameRecord found o
-plainFor (Refused n) o = false
-
--- question 24 of a packed record: do 3, 4 and 7 hold, with the record's arena start in the comparison of 4, and give this record?
-unfoldable pub packedOf : List ℕ → Opened → Bool
-packedOf s o =
-    both (begins s)
-    (both (dimensions (fieldsOf s) (flagsOf s))
-    (both (fitsPacked (fieldsOf s))
-    (both (arenaBelow s (packedRecord (fieldsOf s)))
-    (sameRecord (packedRecord (fieldsOf s)) o))))
-
--- question 24: do these bytes give this record?
-unfoldable pub recordOf : List ℕ → Opened → Bool
-recordOf s o = if o .packed then packedOf s o else plainFor (headerOf s) o
-
 -- where the arena ends (questions 16 and 22): at the scan part, or else at the last five bytes
 unfoldable pub arenaEnd : List ℕ → Opened → ℕ
 arenaEnd s o = if eqb (o .scan) 0 then length s - trailerLen else o .scan
 
--- names all definitions of this file: `unfolding header-defs` opens them
+-- for proofs alone: `unfolding header-defs` opens the definitions of this file
 unfoldable pub header-defs : ℕ
-unfolding standsAt within begins flagsOf hasFlag encodingAt fieldsOf allowedWidths dimensions arenaBelow scanFlagged scanPartLen scanPlaceOf scanPart scanSettings withScan scannedOf headerOf headerNumber fitsPacked packedRecord sameEncoding sameCounts sameRecord plainFor packedOf recordOf arenaEnd
+unfolding standsAt within begins flagsOf hasFlag encodingAt fieldsOf allowedWidths dimensions arenaBelow scanFlagged scanPartLen scanPlaceOf scanPart scanSettings withScan scannedOf headerOf headerNumber fitsPacked packedRecord arenaEnd
 header-defs = 0

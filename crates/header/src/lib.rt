@@ -1,31 +1,10 @@
-// The header of a section, and the record of an opened one: questions 3 to 7 and 24.
+// The header of a section, and the record of an opened one: questions 3 to 7.
 ghost use mathlib.Core.Path.{_≡_};
 ghost use mathlib.Core.List.{[], _∷_};
 ghost use Prim.Native.Nat.{_+_, _≤_, _<_};
 ghost use lib.ListN.{length};
 ghost use Rattle.num.specs.Choice.{oneOf};
-ghost use Rattle.header.specs.Header.{
-  standsAt,
-  begins,
-  hasFlag,
-  encodingAt,
-  fieldsOf,
-  allowedWidths,
-  dimensions,
-  scanPlaceOf,
-  scanPart,
-  scanSettings,
-  scannedOf,
-  headerOf,
-  fitsPacked,
-  packedRecord,
-  sameEncoding,
-  sameCounts,
-  sameRecord,
-  plainFor,
-  packedOf,
-  recordOf,
-};
+ghost use Rattle.header.specs.Header.{standsAt, begins, hasFlag, encodingAt, fieldsOf, allowedWidths, dimensions, scanPlaceOf, scanPart, scanSettings, scannedOf, headerOf, fitsPacked, packedRecord, arenaEnd};
 ghost use Rattle.header.specs.Facts.{Dimensions};
 use encoding::Encoding;
 
@@ -56,7 +35,7 @@ fn stands_at(section: &[u8], at: usize, bytes: &[u8]) -> bool
 }
 
 // Question 3.
-fn begins(section: &[u8]) -> bool
+pub fn begins(section: &[u8]) -> bool
     ensures { λ r. ⌜ r ≡ begins (now (section .entry)) ⌝ }
 {
     if section.len() < Encoding::HEADER + Encoding::TRAILER {
@@ -65,7 +44,7 @@ fn begins(section: &[u8]) -> bool
     stands_at(section, 0, &Encoding::MAGIC)
 }
 
-fn has_flag(flag: u32, flags: u32) -> bool
+pub fn has_flag(flag: u32, flags: u32) -> bool
     requires { ⌜ 0 < flag ⌝ }
     ensures { λ r. ⌜ r ≡ hasFlag flag flags ⌝ }
 {
@@ -87,7 +66,7 @@ fn encoding_at(section: &[u8]) -> Encoding
 }
 
 // The header's numbers, without a scan place.
-fn fields(section: &[u8]) -> Opened
+pub fn fields(section: &[u8]) -> Opened
     requires { ⌜ 64 ≤ length (now section) ⌝ }
     ensures { λ r. ⌜ r ≡ fieldsOf (now (section .entry)) ⌝ }
 {
@@ -159,7 +138,7 @@ fn allowed_widths(e: Encoding) -> bool
 }
 
 // Question 4, but for the comparison with the section's length.
-fn dimensions(o: Opened, flags: u32) -> bool
+pub fn dimensions(o: Opened, flags: u32) -> bool
     ensures { λ r. ⌜ r ≡ dimensions o flags ⌝ }
 {
     let n = o.count;
@@ -241,7 +220,7 @@ fn scan_settings(section: &[u8], scan: usize, n: usize) -> bool
 }
 
 // Questions 5 and 6.
-fn scanned(section: &[u8], o: Opened) -> HeaderRead
+pub fn scanned(section: &[u8], o: Opened) -> HeaderRead
     requires { ⌜ Dimensions o ⌝ }
     requires { ⌜ 69 ≤ length (now section) ⌝ }
     ensures { λ r. ⌜ r ≡ scannedOf (now (section .entry)) o ⌝ }
@@ -307,123 +286,13 @@ pub fn packed_record(o: Opened) -> Opened
     packed
 }
 
-fn same_encoding(a: Encoding, b: Encoding) -> bool
-    ensures { λ r. ⌜ r ≡ sameEncoding a b ⌝ }
+// Where the arena ends.
+pub fn arena_end(section: &[u8], o: Opened) -> usize
+    requires { ⌜ 5 ≤ length (now section) ⌝ }
+    ensures { λ r. ⌜ r ≡ arenaEnd (now (section .entry)) o ⌝ }
 {
-    if a.address != b.address {
-        return false;
+    if o.scan == 0 {
+        return section.len() - Encoding::TRAILER;
     }
-    if a.key != b.key {
-        return false;
-    }
-    if a.count != b.count {
-        return false;
-    }
-    if a.seq != b.seq {
-        return false;
-    }
-    if a.value != b.value {
-        return false;
-    }
-    a.checksum == b.checksum
-}
-
-fn same_counts(a: Opened, b: Opened) -> bool
-    ensures { λ r. ⌜ r ≡ sameCounts a b ⌝ }
-{
-    if a.seed != b.seed {
-        return false;
-    }
-    if a.min_seq != b.min_seq {
-        return false;
-    }
-    if a.count != b.count {
-        return false;
-    }
-    a.buckets == b.buckets
-}
-
-fn same_record(a: Opened, b: Opened) -> bool
-    ensures { λ r. ⌜ r ≡ sameRecord a b ⌝ }
-{
-    if !same_counts(a, b) {
-        return false;
-    }
-    let e = a.encoding;
-    let f = b.encoding;
-    if !same_encoding(e, f) {
-        return false;
-    }
-    if a.arena != b.arena {
-        return false;
-    }
-    if a.scan != b.scan {
-        return false;
-    }
-    a.packed == b.packed
-}
-
-// Question 24 of a packed record.
-fn is_packed(section: &[u8], o: Opened) -> bool
-    ensures { λ r. ⌜ r ≡ packedOf (now (section .entry)) o ⌝ }
-{
-    if !begins(section) {
-        return false;
-    }
-    let found = fields(section);
-    if !dimensions(found, num::u32_at(section, 52)) {
-        return false;
-    }
-    if !fits_packed(found) {
-        return false;
-    }
-    let packed = packed_record(found);
-    if section.len() - Encoding::TRAILER <= packed.arena {
-        return false;
-    }
-    same_record(packed, o)
-}
-
-// Question 24 of a plain record, behind 3 and 4, where the header has the scan flag.
-fn is_scanned(section: &[u8], found: Opened, o: Opened) -> bool
-    requires { ⌜ Dimensions found ⌝ }
-    requires { ⌜ 69 ≤ length (now section) ⌝ }
-    ensures { λ r. ⌜ r ≡ plainFor (scannedOf (now (section .entry)) found) o ⌝ }
-{
-    let read = scanned(section, found);
-    match read {
-        HeaderRead::Accepted(whole) => same_record(whole, o),
-        HeaderRead::Refused(_) => false,
-    }
-}
-
-// Question 24 of a plain record. It asks what `header` asks without handing a record over: lookups ask it each time.
-fn is_plain(section: &[u8], o: Opened) -> bool
-    ensures { λ r. ⌜ r ≡ plainFor (headerOf (now (section .entry))) o ⌝ }
-{
-    if !begins(section) {
-        return false;
-    }
-    let found = fields(section);
-    let flags = num::u32_at(section, 52);
-    if !dimensions(found, flags) {
-        return false;
-    }
-    if section.len() - Encoding::TRAILER <= found.arena {
-        return false;
-    }
-    if has_flag(Encoding::SCAN_FLAG, flags) {
-        return is_scanned(section, found, o);
-    }
-    same_record(found, o)
-}
-
-// Question 24.
-pub fn is_record(section: &[u8], o: Opened) -> bool
-    ensures { λ r. ⌜ r ≡ recordOf (now (section .entry)) o ⌝ }
-{
-    if o.packed {
-        return is_packed(section, o);
-    }
-    is_plain(section, o)
+    o.scan
 }

@@ -3,9 +3,9 @@
 use mathlib.Core.Path.{_≡_, refl, sym, _∙_}
 use mathlib.Core.List.{List}
 use Prim.Native.Nat.{ℕ}
-use Rattle.lookup.specs.declared.ValueLocator.{ValueLocator}
-use Rattle.lookup.specs.declared.Located.{Located}
-use Rattle.lookup.specs.declared.Located.the-variants.{Found, Missing, Refused}
+use Rattle.locator.specs.declared.ValueLocator.{ValueLocator}
+use Rattle.locator.specs.declared.Located.{Located}
+use Rattle.locator.specs.declared.Located.the-variants.{Found, Missing, Refused}
 use Rattle.locating.specs.Store.{LinkerStore, Version, Within}
 use Rattle.locating.specs.Looks.{lookup, NoneWithin, Greatest, Answers, Looks, LooksExactly}
 use Rattle.locating.proofs.Accepted.{lookup-exactly}

@@ -3,8 +3,8 @@ use mathlib.Core.Path.{_≡_}
 use mathlib.Core.Bool.{true}
 use mathlib.Core.List.{List}
 use Prim.Native.Nat.{ℕ, _≤_}
-use Rattle.lookup.specs.declared.ValueLocator.{ValueLocator}
-use Rattle.lookup.specs.declared.Located.the-variants.{Found, Missing}
+use Rattle.locator.specs.declared.ValueLocator.{ValueLocator}
+use Rattle.locator.specs.declared.Located.the-variants.{Found, Missing}
 use Rattle.lookup.specs.Value.{valuePart}
 use Rattle.locating.specs.Store.{LinkerStore, Store, Version, Holds}
 use Rattle.locating.specs.Looks.{lookup, NoneWithin, Greatest, Answers}

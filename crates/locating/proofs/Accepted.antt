@@ -5,14 +5,14 @@ use mathlib.Core.List.{List}
 use Prim.Native.Nat.{ℕ, _≤_}
 use native.Mathlib.Omega.{arith}
 use Rattle.header.specs.declared.Opened.{Opened}
-use Rattle.packing.specs.Packing.{packedBytes}
+use Rattle.packed.specs.Packed.{packedBytes}
 use Rattle.agreement.specs.Keys.{versionSeq}
 use Rattle.admission.specs.Blocks.{storeEntries}
 use Rattle.admission.specs.Admits.{OpensExactly, PacksExactly}
 use Rattle.admission.proofs.Opening.{open-exactly}
 use Rattle.admission.proofs.PackedOpening.{open-packed-exactly, fits-pass}
 use Rattle.lookup.specs.Lookup.{noLimit}
-use Rattle.locating.specs.Store.{LinkerStore, Accepted, plain, packed, Store, Version, Holds}
+use Rattle.locating.specs.Store.{LinkerStore, AcceptedBy, plainOpening, packedOpening, Store, Version, Holds}
 use Rattle.locating.specs.Looks.{LooksExactly}
 use Rattle.locating.proofs.Indexed.{Indexed}
 use Rattle.locating.proofs.Plain.{plain-indexed}
@@ -25,10 +25,10 @@ store-indexed : (t : LinkerStore) → Store t → Indexed (t .bytes) (t .opened)
 unfolding OpensExactly PacksExactly
 store-indexed t st = go (st .accepted)
   where
-    go : Accepted t → Indexed (t .bytes) (t .opened) (t .backing) (storeEntries (t .backing) (t .blocks))
-    go (plain scratch e) =
+    go : AcceptedBy t → Indexed (t .bytes) (t .opened) (t .backing) (storeEntries (t .backing) (t .blocks))
+    go (plainOpening scratch e) =
         plain-indexed (t .bytes) (t .backing) (t .blocks) scratch (t .opened) (st .data-bytes) (open-exactly (t .bytes) (t .backing) (t .blocks) scratch (t .opened) .0 e)
-    go (packed section scratch room e) =
+    go (packedOpening section scratch room e) =
         let f = open-packed-exactly section (t .backing) (t .blocks) scratch room (t .opened) (t .bytes) .0 e in
         let a = f .admits in
         let x = packed-indexed section (t .backing) (t .blocks) scratch (f .plain) (st .data-bytes) (a .admits) (fits-pass (f .plain) (a .checksums) (a .few)) (a .pilots) in

@@ -10,12 +10,12 @@ use native.Mathlib.Omega.{arith}
 use Rattle.num.specs.Order.{equalBytes}
 use Rattle.num.proofs.Order.{equalBytes-true, equalBytes-same}
 use Rattle.num.proofs.Steps.{first-or-later}
-use Rattle.agreement.specs.Keys.{versionsOf, keyAt, versionPlace, versionSeq}
+use Rattle.agreement.specs.Keys.{versionCount, keyAt, versionPlace, versionSeq}
 use Rattle.admission.specs.Blocks.{storeEntries}
-use Rattle.lookup.specs.declared.ValueLocator.{ValueLocator}
-use Rattle.lookup.specs.declared.Located.{Located}
-use Rattle.lookup.specs.declared.Located.the-variants.{Found, Missing, Refused}
-use Rattle.lookup.specs.Lookup.{locatorAt, versionsFrom}
+use Rattle.locator.specs.declared.ValueLocator.{ValueLocator}
+use Rattle.locator.specs.declared.Located.{Located}
+use Rattle.locator.specs.declared.Located.the-variants.{Found, Missing, Refused}
+use Rattle.locator.specs.Locator.{locatorAt, versionsFrom}
 use Rattle.locating.specs.Store.{LinkerStore, Version, Within}
 use Rattle.locating.specs.Looks.{lookup, NoneWithin, Greatest, Answers, Looks}
 use Rattle.num.proofs.Counting.{search-below}
@@ -47,7 +47,7 @@ module _ (t : LinkerStore) (x : Indexed (t .bytes) (t .opened) (t .backing) (sto
   -- a version of key k within a limit is one of the key's, of a sequence within the limit
   record OwnWithin (k limit : ℕ) (v : Version) : Type 0 where
     index : ℕ
-    below : index < versionsOf s o k
+    below : index < versionCount s o k
     seq : v .seq ≡ versionSeq s o k index
     within : versionSeq s o k index ≤ limit
 
@@ -80,7 +80,7 @@ module _ (t : LinkerStore) (x : Indexed (t .bytes) (t .opened) (t .backing) (sto
         }
 
     -- a key of the arena
-    own-outcome : Answered s o k limit 0 (versionsFrom (versionsOf s o k) s o (versionPlace s o k 0) limit) → Outcome t (keyAt s o k) limit
+    own-outcome : Answered s o k limit 0 (versionsFrom (versionCount s o k) s o (versionPlace s o k 0) limit) → Outcome t (keyAt s o k) limit
     unfolding lookup NoneWithin
     own-outcome (none above e) =
         missed (located-own s o «data» (storeEntries «data» blocks) x k h limit ∙ e)
@@ -109,7 +109,7 @@ module _ (t : LinkerStore) (x : Indexed (t .bytes) (t .opened) (t .backing) (sto
         go (inl w) =
             subst (λ (a : List ℕ). Outcome t a limit) (sym (equalBytes-true _ _ (w .2)))
             (own-outcome (w .0) (w .1) limit
-            (answered s o «data» (storeEntries «data» blocks) x (w .0) (w .1) limit (versionsOf s o (w .0)) 0 (zero-add (versionsOf s o (w .0)))))
+            (answered s o «data» (storeEntries «data» blocks) x (w .0) (w .1) limit (versionCount s o (w .0)) 0 (zero-add (versionCount s o (w .0)))))
         go (inr n) = other-outcome (λ k h e. n k h (equalBytes-same key (keyAt s o k) e))
 
     -- there is one greatest version

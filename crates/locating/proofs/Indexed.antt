@@ -9,11 +9,11 @@ use Rattle.num.specs.Number.{leAt}
 use Rattle.crc32.specs.V42.{crcOf}
 use Rattle.block.specs.Walk.{Entry}
 use Rattle.point.specs.Hash.{hashOf, slotOf, fingerprintOf}
-use Rattle.encoding.specs.Encoding.{keyHeaderOf, versionOf}
+use Rattle.encoding.specs.Encoding.{keyHeaderLenOf, versionLenOf}
 use Rattle.header.specs.declared.Opened.{Opened}
-use Rattle.header.specs.Header.{recordOf}
-use Rattle.opening.specs.Walk.{valueOf}
-use Rattle.agreement.specs.Keys.{addressOf, headerOfKey, versionsOf, suffixPlace, anchorIndex, keyAt, firstVersion, versionPlace, versionSeq, versionChecksum}
+use Rattle.opened.specs.Opened.{isRecord}
+use Rattle.validate.specs.Walk.{valueOf}
+use Rattle.agreement.specs.Keys.{addressOf, keyHeaderOf, versionCount, suffixPlace, anchorIndex, keyAt, firstVersion, versionPlace, versionSeq, versionChecksum}
 use Rattle.agreement.specs.Agrees.{entryAt, SameVersion}
 use Rattle.admission.proofs.Stored.{StoredEntry}
 use Rattle.lookup.specs.Lookup.{pilotLen, pilotOffset, pilotOf, slotLen, slotOffset}
@@ -21,7 +21,7 @@ use Rattle.lookup.specs.Lookup.{pilotLen, pilotOffset, pilotOf, slotLen, slotOf
 -- a section, or packed bytes, with its record, beside data and the records of their blocks
 pub record Indexed (s : List ℕ) (o : Opened) («data» : List ℕ) (es : List Entry) : Type 0 where
   -- question 24
-  pub is-record : recordOf s o ≡ true
+  pub is-record : isRecord s o ≡ true
   -- the pilot and the slot of a hash lie in the section, and the slot is one of n
   pub pilot-inside : (h : ℕ) → pilotOffset o h + pilotLen o ≤ length s
   pub slot-below : (h : ℕ) → slotOf h (pilotOf s o h) (o .count) < o .count
@@ -34,19 +34,19 @@ pub record Indexed (s : List ℕ) (o : Opened) («data» : List ℕ) (es : List 
   pub address-names : (k m : ℕ) → k < o .count → m < o .count → addressOf s o k ≡ addressOf s o m → k ≡ m
   pub key-names : (k m : ℕ) → k < o .count → m < o .count → keyAt s o k ≡ keyAt s o m → k ≡ m
   -- the parts of a key record lie in the section
-  pub header-inside : (k : ℕ) → k < o .count → o .arena + addressOf s o k + keyHeaderOf (o .encoding) ≤ length s
-  pub anchor-place : (k : ℕ) → k < o .count → o .arena + headerOfKey s o k .anchor ≡ suffixPlace s o (anchorIndex k)
-  pub shared-inside : (k : ℕ) → k < o .count → suffixPlace s o (anchorIndex k) + headerOfKey s o k .shared ≤ length s
-  pub suffix-inside : (k : ℕ) → k < o .count → suffixPlace s o k + headerOfKey s o k .«suffix_len» ≤ length s
-  pub version-inside : (k j : ℕ) → k < o .count → j < versionsOf s o k → versionPlace s o k j + versionOf (o .encoding) ≤ length s
+  pub header-inside : (k : ℕ) → k < o .count → o .arena + addressOf s o k + keyHeaderLenOf (o .encoding) ≤ length s
+  pub anchor-place : (k : ℕ) → k < o .count → o .arena + keyHeaderOf s o k .anchor ≡ suffixPlace s o (anchorIndex k)
+  pub shared-inside : (k : ℕ) → k < o .count → suffixPlace s o (anchorIndex k) + keyHeaderOf s o k .shared ≤ length s
+  pub suffix-inside : (k : ℕ) → k < o .count → suffixPlace s o k + keyHeaderOf s o k .«suffix_len» ≤ length s
+  pub version-inside : (k j : ℕ) → k < o .count → j < versionCount s o k → versionPlace s o k j + versionLenOf (o .encoding) ≤ length s
   -- the versions of the keys are the records of the blocks, and their sequences, all below 2^64, fall
-  pub versions : (k j : ℕ) → k < o .count → j < versionsOf s o k → SameVersion s o k j (entryAt es (firstVersion s o k + j))
-  pub version-listed : (k j : ℕ) → k < o .count → j < versionsOf s o k → firstVersion s o k + j < length es
+  pub versions : (k j : ℕ) → k < o .count → j < versionCount s o k → SameVersion s o k j (entryAt es (firstVersion s o k + j))
+  pub version-listed : (k j : ℕ) → k < o .count → j < versionCount s o k → firstVersion s o k + j < length es
   pub record-version : (r : ℕ) → r < length es
-      → (k : ℕ) × (j : ℕ) × (k < o .count) × (j < versionsOf s o k) × (r ≡ firstVersion s o k + j)
-  pub falling : (k i j : ℕ) → k < o .count → i < j → j < versionsOf s o k → versionSeq s o k j < versionSeq s o k i
-  pub sums : (k j : ℕ) → k < o .count → j < versionsOf s o k → versionSeq s o k j < 2 ^ 64
+      → (k : ℕ) × (j : ℕ) × (k < o .count) × (j < versionCount s o k) × (r ≡ firstVersion s o k + j)
+  pub falling : (k i j : ℕ) → k < o .count → i < j → j < versionCount s o k → versionSeq s o k j < versionSeq s o k i
+  pub sums : (k j : ℕ) → k < o .count → j < versionCount s o k → versionSeq s o k j < 2 ^ 64
   -- the values lie in the data, and the stored checksums are theirs
   pub values : (r : ℕ) → r < length es → StoredEntry «data» (entryAt es r)
-  pub checksums : o .encoding .checksum ≡ true → (k j : ℕ) → k < o .count → j < versionsOf s o k
+  pub checksums : o .encoding .checksum ≡ true → (k j : ℕ) → k < o .count → j < versionCount s o k
       → versionChecksum s o k j ≡ crcOf (valueOf «data» (entryAt es (firstVersion s o k + j)))

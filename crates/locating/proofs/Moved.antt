@@ -9,26 +9,26 @@ use lib.ListN.{take, drop}
 use Rattle.num.specs.Number.{leAt}
 use Rattle.num.proofs.Choice.{if-true}
 use Rattle.block.specs.Walk.{Entry}
-use Rattle.encoding.specs.Encoding.{keyHeaderOf, versionOf}
+use Rattle.encoding.specs.Encoding.{keyHeaderLenOf, versionLenOf}
 use Rattle.header.specs.Header.{packedRecord}
 use Rattle.arena.specs.declared.KeyHeader.{KeyHeader}
 use Rattle.arena.specs.Key.{keyHeaderAt}
-use Rattle.arena.specs.Version.{storedSeq, storedValue, kindIn, lengthIn, storedOffset, storedChecksum}
+use Rattle.versions.specs.Version.{storedSeq, storedValue, kindIn, lengthIn, storedOffset, storedChecksum}
 use Rattle.num.proofs.Pieces.{leAt-parts}
-use Rattle.opening.specs.Walk.{Store}
-use Rattle.agreement.specs.Keys.{keyRecordLen, addressOf, headerOfKey, versionsOf, suffixPlace, anchorIndex, keyAt, firstVersion, versionPlace, versionSeq, versionKind, versionLength, versionOffset, versionChecksum}
+use Rattle.validate.specs.Walk.{Inputs}
+use Rattle.agreement.specs.Keys.{keyRecordLen, addressOf, keyHeaderOf, versionCount, suffixPlace, anchorIndex, keyAt, firstVersion, versionPlace, versionSeq, versionKind, versionLength, versionOffset, versionChecksum}
 use Rattle.agreement.specs.Agrees.{Agrees}
 use Rattle.agreement.proofs.Indices.{anchor-le}
 use Rattle.agreement.proofs.Laws.{shared-inside, version-inside}
 
 -- every part of the arena of a store stands in w too, from the packed record's start on
-unfoldable pub ArenaKept : Store → List ℕ → Type 0
+unfoldable pub ArenaKept : Inputs → List ℕ → Type 0
 ArenaKept t w =
     (a n : ℕ) → t .opened .arena + a + n ≤ t .end
     → take n (drop (packedRecord (t .opened) .arena + a) w) ≡ take n (drop (t .opened .arena + a) (t .section))
 
-module _ (t : Store) (w : List ℕ) (kept : ArenaKept t w) where
-  open Store t using (section as s, opened as o, end)
+module _ (t : Inputs) (w : List ℕ) (kept : ArenaKept t w) where
+  open Inputs t using (section as s, opened as o, end)
 
   -- ---- at a place x of w and a place y of the section, as far from the two starts of the arena
 
@@ -45,9 +45,9 @@ module _ (t : Store) (w : List ℕ) (kept : ArenaKept t w) where
   number-same x y n e l b = leAt-parts w s x y n (part-same x y n e l b)
 
   -- and key headers
-  header-same : (x y : ℕ) → x + o .arena ≡ y + packedRecord o .arena → o .arena ≤ y → y + keyHeaderOf (o .encoding) ≤ end
+  header-same : (x y : ℕ) → x + o .arena ≡ y + packedRecord o .arena → o .arena ≤ y → y + keyHeaderLenOf (o .encoding) ≤ end
       → keyHeaderAt w (o .encoding) x ≡ keyHeaderAt s (o .encoding) y
-  unfolding keyHeaderAt keyHeaderOf
+  unfolding keyHeaderAt keyHeaderLenOf
   header-same x y e l b =
       let address = o .encoding .address in
       let key = o .encoding .key in
@@ -59,27 +59,27 @@ module _ (t : Store) (w : List ℕ) (kept : ArenaKept t w) where
       }
 
   -- and versions
-  module _ (x y : ℕ) (e : x + o .arena ≡ y + packedRecord o .arena) (l : o .arena ≤ y) (b : y + versionOf (o .encoding) ≤ end) where
+  module _ (x y : ℕ) (e : x + o .arena ≡ y + packedRecord o .arena) (l : o .arena ≤ y) (b : y + versionLenOf (o .encoding) ≤ end) where
     -- the sequence
     stored-seq : storedSeq w (packedRecord o) x ≡ storedSeq s o y
-    unfolding storedSeq packedRecord versionOf
+    unfolding storedSeq packedRecord versionLenOf
     stored-seq = ap (λ (n : ℕ). o .«min_seq» + n) (number-same x y (o .encoding .seq) e l (omega arith))
 
     -- the value length, with its top bit
     stored-value : storedValue w (packedRecord o) x ≡ storedValue s o y
-    unfolding storedValue packedRecord versionOf
+    unfolding storedValue packedRecord versionLenOf
     stored-value = number-same (x + o .encoding .seq) (y + o .encoding .seq) (o .encoding .value) (omega arith) (omega arith) (omega arith)
 
     -- the value offset
     stored-offset : storedOffset w (packedRecord o) x ≡ storedOffset s o y
-    unfolding storedOffset packedRecord versionOf
+    unfolding storedOffset packedRecord versionLenOf
     stored-offset =
         number-same (x + o .encoding .seq + o .encoding .value) (y + o .encoding .seq + o .encoding .value) (o .encoding .address)
         (omega arith) (omega arith) (omega arith)
 
     -- the checksum, in an encoding with checksums
     stored-checksum : o .encoding .checksum ≡ true → storedChecksum w (packedRecord o) x ≡ storedChecksum s o y
-    unfolding storedChecksum packedRecord versionOf
+    unfolding storedChecksum packedRecord versionLenOf
     stored-checksum c =
         let f = if-true {A = ℕ} (o .encoding .checksum) 4 0 c in
         number-same (x + o .encoding .seq + o .encoding .value + o .encoding .address) (y + o .encoding .seq + o .encoding .value + o .encoding .address) 4
@@ -103,15 +103,15 @@ module _ (t : Store) (w : List ℕ) (kept : ArenaKept t w) where
         ∙ ap (λ (h : KeyHeader). addressOf s o k + keyRecordLen (o .encoding) h) (record-same k l)
 
     -- the key headers
-    pub key-header-same : (k : ℕ) → k < o .count → headerOfKey w (packedRecord o) k ≡ headerOfKey s o k
-    unfolding headerOfKey packedRecord
+    pub key-header-same : (k : ℕ) → k < o .count → keyHeaderOf w (packedRecord o) k ≡ keyHeaderOf s o k
+    unfolding keyHeaderOf packedRecord
     key-header-same k l =
         ap (λ (n : ℕ). keyHeaderAt w (o .encoding) (packedRecord o .arena + n)) (address-same k (omega arith))
         ∙ record-same k l
 
     -- the numbers of versions
-    pub versions-same : (k : ℕ) → k < o .count → versionsOf w (packedRecord o) k ≡ versionsOf s o k
-    unfolding versionsOf
+    pub versions-same : (k : ℕ) → k < o .count → versionCount w (packedRecord o) k ≡ versionCount s o k
+    unfolding versionCount
     versions-same k l = ap (λ (h : KeyHeader). h .versions) (key-header-same k l)
 
     -- the versions before a key
@@ -152,11 +152,11 @@ module _ (t : Store) (w : List ℕ) (kept : ArenaKept t w) where
         let e = key-header-same k l in
         ap (λ (h : KeyHeader). take (h .shared) (drop (suffixPlace w (packedRecord o) (anchorIndex k)) w) ++ take (h .«suffix_len») (drop (suffixPlace w (packedRecord o) k) w)) e
         ∙ ap₂ (λ (u v : List ℕ). u ++ v)
-        (part-same _ _ (headerOfKey s o k .shared) (suffix-moved (anchorIndex k) n) (suffix-behind (anchorIndex k)) (shared-inside t es a k l))
-        (part-same _ _ (headerOfKey s o k .«suffix_len») (suffix-moved k l) (suffix-behind k) (a .keys k l .suffix-inside))
+        (part-same _ _ (keyHeaderOf s o k .shared) (suffix-moved (anchorIndex k) n) (suffix-behind (anchorIndex k)) (shared-inside t es a k l))
+        (part-same _ _ (keyHeaderOf s o k .«suffix_len») (suffix-moved k l) (suffix-behind k) (a .keys k l .suffix-inside))
 
     -- what is stored of a version
-    module _ (k j : ℕ) (l : k < o .count) (b : j < versionsOf s o k) where
+    module _ (k j : ℕ) (l : k < o .count) (b : j < versionCount s o k) where
       pub seq-same : versionSeq w (packedRecord o) k j ≡ versionSeq s o k j
       unfolding versionSeq
       seq-same = stored-seq _ _ (version-moved k j l) (version-behind k j) (version-inside t es a k j l b)

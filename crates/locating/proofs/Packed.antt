@@ -16,19 +16,20 @@ use Rattle.crc32.specs.V42.{crcOf}
 use Rattle.block.specs.Walk.{Entry}
 use Rattle.point.specs.Hash.{hashOf, bucketOf, isDirect, directSlot, slotOf}
 use Rattle.point.proofs.Slots.{bucket-lt, slot-direct, slot-lt}
-use Rattle.encoding.specs.Encoding.{headerLen, keyHeaderOf, versionOf}
+use Rattle.encoding.specs.Encoding.{headerLen, keyHeaderLenOf, versionLenOf}
 use Rattle.header.specs.declared.Opened.{Opened}
 use Rattle.header.specs.Header.{fitsPacked, packedRecord, arenaEnd}
-use Rattle.header.specs.Facts.{Header, plain}
+use Rattle.header.specs.Facts.{Header, fromPlain}
 use Rattle.header.proofs.Bounds.{buckets-range, arena-end}
 use Rattle.arena.specs.declared.KeyHeader.{KeyHeader}
 use Rattle.arena.specs.Key.{pilotPlace, slotPlace}
-use Rattle.opening.specs.Walk.{Store, valueOf}
-use Rattle.opening.specs.Open.{storeOf}
-use Rattle.packing.specs.Packing.{pilotAt as plainPilot, packPilot, packedBytes}
-use Rattle.packing.proofs.Lengths.{length-packed}
-use Rattle.packing.proofs.Bytes.{packed-end, packed-is-record, packed-pilot, packed-address, packed-part}
-use Rattle.agreement.specs.Keys.{addressOf, headerOfKey, versionsOf, suffixPlace, anchorIndex, keyAt, firstVersion, versionPlace, versionSeq, versionChecksum}
+use Rattle.validate.specs.Walk.{Inputs, valueOf}
+use Rattle.opening.specs.Open.{inputsOf}
+use Rattle.packed.specs.Packed.{pilotAt as plainPilot}
+use Rattle.packed.specs.Packed.{packPilot, packedBytes}
+use Rattle.packed.proofs.Lengths.{length-packed}
+use Rattle.packed.proofs.Bytes.{packed-end, packed-is-record, packed-pilot, packed-address, packed-part}
+use Rattle.agreement.specs.Keys.{addressOf, keyHeaderOf, versionCount, suffixPlace, anchorIndex, keyAt, firstVersion, versionPlace, versionSeq, versionChecksum}
 use Rattle.agreement.specs.Agrees.{entryAt, SameVersion, Agrees}
 use Rattle.agreement.proofs.Laws as laws
 use Rattle.agreement.proofs.Indices.{anchor-le}
@@ -115,15 +116,15 @@ module _ (s : List ℕ) (o : Opened) (h : Header s o) where
 
   -- what lies in the arena lies in the packed bytes
   place-inside : (x y n : ℕ) → x + o .arena ≡ y + packedRecord o .arena → y + n ≤ arenaEnd s o → x + n ≤ length (packedBytes s o)
-  place-inside x y n e b = let a = arena-end s o (plain h) in omega (arith, packed-end s o h)
+  place-inside x y n e b = let a = arena-end s o (fromPlain h) in omega (arith, packed-end s o h)
 
 -- ---- keys and versions, of a store whose arena is kept in w
 
-module _ (t : Store) (w : List ℕ) (kept : ArenaKept t w) (es : List Entry) (a : Agrees t es) where
-  open Store t using (section as s, backing as «data», opened as o, end)
+module _ (t : Inputs) (w : List ℕ) (kept : ArenaKept t w) (es : List Entry) (a : Agrees t es) where
+  open Inputs t using (section as s, backing as «data», opened as o, end)
 
   -- a version of a key in w is one in the section
-  version-below : (k j : ℕ) → k < o .count → j < versionsOf w (packedRecord o) k → j < versionsOf s o k
+  version-below : (k j : ℕ) → k < o .count → j < versionCount w (packedRecord o) k → j < versionCount s o k
   version-below k j l b = omega (arith, versions-same t w kept es a k l)
 
   -- an address names one key
@@ -136,7 +137,7 @@ module _ (t : Store) (w : List ℕ) (kept : ArenaKept t w) (es : List Entry) (a 
   key-names k m l n e = laws.key-names t es a k m l n (sym (key-same t w kept es a k l) ∙ e ∙ key-same t w kept es a m n)
 
   -- the stored anchor is the address of the anchor's suffix
-  anchor-place : (k : ℕ) → k < o .count → packedRecord o .arena + headerOfKey w (packedRecord o) k .anchor ≡ suffixPlace w (packedRecord o) (anchorIndex k)
+  anchor-place : (k : ℕ) → k < o .count → packedRecord o .arena + keyHeaderOf w (packedRecord o) k .anchor ≡ suffixPlace w (packedRecord o) (anchorIndex k)
   anchor-place k l =
       let n = anchor-le k in
       let x = laws.anchor-place t es a k l in
@@ -145,7 +146,7 @@ module _ (t : Store) (w : List ℕ) (kept : ArenaKept t w) (es : List Entry) (a 
       omega arith
 
   -- the versions are the records
-  same-version : (k j : ℕ) → k < o .count → j < versionsOf w (packedRecord o) k
+  same-version : (k j : ℕ) → k < o .count → j < versionCount w (packedRecord o) k
       → SameVersion w (packedRecord o) k j (entryAt es (firstVersion w (packedRecord o) k + j))
   same-version k j l b =
       let i = version-below k j l b in
@@ -160,14 +161,14 @@ module _ (t : Store) (w : List ℕ) (kept : ArenaKept t w) (es : List Entry) (a 
       })
 
   -- every version is a record
-  version-listed : (k j : ℕ) → k < o .count → j < versionsOf w (packedRecord o) k → firstVersion w (packedRecord o) k + j < length es
+  version-listed : (k j : ℕ) → k < o .count → j < versionCount w (packedRecord o) k → firstVersion w (packedRecord o) k + j < length es
   version-listed k j l b =
       let n = laws.version-listed t es a k j l (version-below k j l b) in
       omega (arith, first-same t w kept es a k (omega arith))
 
   -- and every record is a version
   record-version : (r : ℕ) → r < length es
-      → (k : ℕ) × (j : ℕ) × (k < o .count) × (j < versionsOf w (packedRecord o) k) × (r ≡ firstVersion w (packedRecord o) k + j)
+      → (k : ℕ) × (j : ℕ) × (k < o .count) × (j < versionCount w (packedRecord o) k) × (r ≡ firstVersion w (packedRecord o) k + j)
   record-version r l =
       let v = laws.record-version t es a r l in
       let b = v .key-below in
@@ -177,7 +178,7 @@ module _ (t : Store) (w : List ℕ) (kept : ArenaKept t w) (es : List Entry) (a 
       (v .key, v .version, b, omega (arith, versions-same t w kept es a (v .key) b), omega arith)
 
   -- the sequences of a key fall
-  falling : (k i j : ℕ) → k < o .count → i < j → j < versionsOf w (packedRecord o) k → versionSeq w (packedRecord o) k j < versionSeq w (packedRecord o) k i
+  falling : (k i j : ℕ) → k < o .count → i < j → j < versionCount w (packedRecord o) k → versionSeq w (packedRecord o) k j < versionSeq w (packedRecord o) k i
   falling k i j l h b =
       let m = version-below k j l b in
       let x = laws.sequences-fall t es a k i j l h m in
@@ -186,7 +187,7 @@ module _ (t : Store) (w : List ℕ) (kept : ArenaKept t w) (es : List Entry) (a 
       omega arith
 
   -- the stored checksums are those of the values
-  checksums : o .encoding .checksum ≡ true → (k j : ℕ) → k < o .count → j < versionsOf w (packedRecord o) k
+  checksums : o .encoding .checksum ≡ true → (k j : ℕ) → k < o .count → j < versionCount w (packedRecord o) k
       → versionChecksum w (packedRecord o) k j ≡ crcOf (valueOf «data» (entryAt es (firstVersion w (packedRecord o) k + j)))
   checksums c k j l b =
       let i = version-below k j l b in
@@ -205,7 +206,7 @@ module _ (t : Store) (w : List ℕ) (kept : ArenaKept t w) (es : List Entry) (a 
       ∙ sym (address-same t w kept es a k (omega arith))
 
   -- sequences of 64 bits
-  sums : ((r : ℕ) → r < length es → entryAt es r .seq < 2 ^ 64) → (k j : ℕ) → k < o .count → j < versionsOf w (packedRecord o) k
+  sums : ((r : ℕ) → r < length es → entryAt es r .seq < 2 ^ 64) → (k j : ℕ) → k < o .count → j < versionCount w (packedRecord o) k
       → versionSeq w (packedRecord o) k j < 2 ^ 64
   sums small k j l b =
       subst (λ (n : ℕ). n < 2 ^ 64) (same-version k j l b .seq) (small (firstVersion w (packedRecord o) k + j) (version-listed k j l b))
@@ -213,42 +214,42 @@ module _ (t : Store) (w : List ℕ) (kept : ArenaKept t w) (es : List Entry) (a 
   -- where all of the arena lies in w
   module _ (inside : (x y n : ℕ) → x + o .arena ≡ y + packedRecord o .arena → y + n ≤ end → x + n ≤ length w) where
     -- so do the key headers
-    header-inside : (k : ℕ) → k < o .count → packedRecord o .arena + addressOf w (packedRecord o) k + keyHeaderOf (o .encoding) ≤ length w
+    header-inside : (k : ℕ) → k < o .count → packedRecord o .arena + addressOf w (packedRecord o) k + keyHeaderLenOf (o .encoding) ≤ length w
     header-inside k l =
         let e = address-same t w kept es a k (omega arith) in
-        inside (packedRecord o .arena + addressOf w (packedRecord o) k) (o .arena + addressOf s o k) (keyHeaderOf (o .encoding)) (omega arith)
+        inside (packedRecord o .arena + addressOf w (packedRecord o) k) (o .arena + addressOf s o k) (keyHeaderLenOf (o .encoding)) (omega arith)
         (a .keys k l .header-inside)
 
     -- what keys share with their anchors
-    shared-inside : (k : ℕ) → k < o .count → suffixPlace w (packedRecord o) (anchorIndex k) + headerOfKey w (packedRecord o) k .shared ≤ length w
+    shared-inside : (k : ℕ) → k < o .count → suffixPlace w (packedRecord o) (anchorIndex k) + keyHeaderOf w (packedRecord o) k .shared ≤ length w
     shared-inside k l =
         let n = anchor-le k in
         rw (key-header-same t w kept es a k l)
-        (inside _ _ (headerOfKey s o k .shared) (suffix-moved t w kept es a (anchorIndex k) (omega arith)) (laws.shared-inside t es a k l))
+        (inside _ _ (keyHeaderOf s o k .shared) (suffix-moved t w kept es a (anchorIndex k) (omega arith)) (laws.shared-inside t es a k l))
 
     -- their suffixes
-    suffix-inside : (k : ℕ) → k < o .count → suffixPlace w (packedRecord o) k + headerOfKey w (packedRecord o) k .«suffix_len» ≤ length w
+    suffix-inside : (k : ℕ) → k < o .count → suffixPlace w (packedRecord o) k + keyHeaderOf w (packedRecord o) k .«suffix_len» ≤ length w
     suffix-inside k l =
         rw (key-header-same t w kept es a k l)
-        (inside _ _ (headerOfKey s o k .«suffix_len») (suffix-moved t w kept es a k l) (a .keys k l .suffix-inside))
+        (inside _ _ (keyHeaderOf s o k .«suffix_len») (suffix-moved t w kept es a k l) (a .keys k l .suffix-inside))
 
     -- and their versions
-    version-inside : (k j : ℕ) → k < o .count → j < versionsOf w (packedRecord o) k
-        → versionPlace w (packedRecord o) k j + versionOf (o .encoding) ≤ length w
+    version-inside : (k j : ℕ) → k < o .count → j < versionCount w (packedRecord o) k
+        → versionPlace w (packedRecord o) k j + versionLenOf (o .encoding) ≤ length w
     version-inside k j l b =
-        inside _ _ (versionOf (o .encoding)) (version-moved t w kept es a k j l) (laws.version-inside t es a k j l (version-below k j l b))
+        inside _ _ (versionLenOf (o .encoding)) (version-moved t w kept es a k j l) (laws.version-inside t es a k j l (version-below k j l b))
 
 -- the packed bytes keep the arena
-arena-kept : (s «data» : List ℕ) (scratch : ℕ) (o : Opened) → Header s o → ArenaKept (storeOf s «data» scratch o) (packedBytes s o)
-unfolding ArenaKept storeOf
+arena-kept : (s «data» : List ℕ) (scratch : ℕ) (o : Opened) → Header s o → ArenaKept (inputsOf s «data» scratch o) (packedBytes s o)
+unfolding ArenaKept inputsOf
 arena-kept s «data» scratch o h = packed-part s o h
 
 -- the packed bytes of an admitted section whose pilots pack
 pub packed-indexed : (s «data» blocks : List ℕ) (scratch : ℕ) (o : Opened) → Bytes «data» → Admits s «data» blocks scratch o → fitsPacked o ≡ true → PilotsPack s o
     → Indexed (packedBytes s o) (packedRecord o) «data» (storeEntries «data» blocks)
-unfolding storeOf packedRecord
+unfolding inputsOf packedRecord
 packed-indexed s «data» blocks scratch o bytes m fits pack =
-    let t = storeOf s «data» scratch o in
+    let t = inputsOf s «data» scratch o in
     let w = packedBytes s o in
     let es = storeEntries «data» blocks in
     let h = m .header in

@@ -12,12 +12,13 @@ use Rattle.point.specs.Hash.{bucketOf, slotOf}
 use Rattle.point.proofs.Slots.{bucket-lt, slot-lt}
 use Rattle.encoding.specs.Encoding.{headerLen}
 use Rattle.header.specs.declared.Opened.{Opened}
-use Rattle.header.specs.Facts.{Header, plain}
-use Rattle.header.proofs.Headers.{header-plain, facts-record}
+use Rattle.header.specs.Facts.{Header, fromPlain}
+use Rattle.header.proofs.Headers.{header-plain}
+use Rattle.opened.proofs.Records.{facts-record}
 use Rattle.header.proofs.Bounds.{buckets-range, pilot-inside, slot-inside, arena-end}
 use Rattle.arena.specs.Key.{pilotPlace, slotPlace}
-use Rattle.opening.specs.Open.{storeOf}
-use Rattle.agreement.specs.Keys.{versionsOf, firstVersion, versionSeq}
+use Rattle.opening.specs.Open.{inputsOf}
+use Rattle.agreement.specs.Keys.{versionCount, firstVersion, versionSeq}
 use Rattle.agreement.specs.Agrees.{entryAt}
 use Rattle.agreement.proofs.Laws.{address-names, key-names, sequences-fall, anchor-place, shared-inside, version-inside, version-listed, record-version, index-member}
 use Rattle.admission.specs.Blocks.{storeEntries}
@@ -51,7 +52,7 @@ module _ (o : Opened) (p : o .packed ≡ false) where
 
 module _ (s : List ℕ) (o : Opened) (h : Header s o) where
   arena-inside : o .arena ≤ length s
-  arena-inside = let e = arena-end s o (plain h) in omega arith
+  arena-inside = let e = arena-end s o (fromPlain h) in omega arith
 
   bucket-below : (x : ℕ) → bucketOf x (o .buckets) < o .buckets
   bucket-below x = bucket-lt x (o .buckets) (buckets-range o (h .dimensions) .0)
@@ -89,26 +90,26 @@ module _ (s : List ℕ) (o : Opened) (h : Header s o) where
 
 -- a version's sequence is that of a record of the blocks
 seq-below : (s «data» blocks : List ℕ) (scratch : ℕ) (o : Opened) → Bytes «data» → Admits s «data» blocks scratch o
-    → (k j : ℕ) → k < o .count → j < versionsOf s o k → versionSeq s o k j < 2 ^ 64
-unfolding storeOf
+    → (k j : ℕ) → k < o .count → j < versionCount s o k → versionSeq s o k j < 2 ^ 64
+unfolding inputsOf
 seq-below s «data» blocks scratch o b a k j h l =
     let es = storeEntries «data» blocks in
     let r = firstVersion s o k + j in
-    let n = version-listed (storeOf s «data» scratch o) es (a .agrees) k j h l in
+    let n = version-listed (inputsOf s «data» scratch o) es (a .agrees) k j h l in
     subst (λ (x : ℕ). x < 2 ^ 64) (a .agrees .versions k j h l .seq) (stored-seq «data» blocks b (entryAt es r) (index-member es r n))
 
 -- the records of the blocks are indexed
 pub plain-indexed : (s «data» blocks : List ℕ) (scratch : ℕ) (o : Opened) → Bytes «data» → Admits s «data» blocks scratch o
     → Indexed s o «data» (storeEntries «data» blocks)
-unfolding storeOf
+unfolding inputsOf
 plain-indexed s «data» blocks scratch o b a =
-    let t = storeOf s «data» scratch o in
+    let t = inputsOf s «data» scratch o in
     let es = storeEntries «data» blocks in
     let g = a .agrees in
     let place = slot-place o (header-plain s o (a .header)) s in
-    let e = arena-end s o (plain (a .header)) in
+    let e = arena-end s o (fromPlain (a .header)) in
     record {
-      is-record = facts-record s o (plain (a .header));
+      is-record = facts-record s o (fromPlain (a .header));
       pilot-inside = pilot-fits s o (a .header);
       slot-below = slot-found s o (a .header) (a .pilots);
       slot-inside = slot-fits s o (a .header) (a .pilots);

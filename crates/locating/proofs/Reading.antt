@@ -13,19 +13,21 @@ use Rattle.num.proofs.Lists.{part-length}
 use Rattle.num.proofs.Order.{equalBytes-true, equalBytes-same}
 use Rattle.block.specs.Walk.{Entry}
 use Rattle.point.specs.Hash.{hashOf, slotOf}
-use Rattle.encoding.specs.Encoding.{headerLen, keyHeaderOf}
+use Rattle.encoding.specs.Encoding.{headerLen, keyHeaderLenOf}
 use Rattle.header.specs.declared.Opened.{Opened}
 use Rattle.arena.specs.declared.KeyHeader.{KeyHeader}
-use Rattle.agreement.specs.Keys.{addressOf, headerOfKey, versionsOf, suffixPlace, keyAt, versionPlace}
-use Rattle.lookup.specs.declared.Located.{Located}
-use Rattle.lookup.specs.declared.Located.the-variants.{Missing, Refused}
-use Rattle.lookup.specs.Lookup.{readable, reading, pilotLen, pilotOf, slotLen, slotOffset, versionsFrom, keyRecordOf, keyRecordAt, slotRead, hashRead, locateOf}
+use Rattle.agreement.specs.Keys.{addressOf, keyHeaderOf, versionCount, suffixPlace, keyAt, versionPlace}
+use Rattle.locator.specs.declared.Located.{Located}
+use Rattle.locator.specs.declared.Located.the-variants.{Missing, Refused}
+use Rattle.num.specs.Choice.{if_then_else_}
+use Rattle.lookup.specs.Lookup.{pilotLen, pilotOf, slotLen, slotOffset, keyRecordOf, keyRecordAt, slotRead, hashRead, locateOf}
+use Rattle.locator.specs.Locator.{readable, versionsFrom}
 use Rattle.num.proofs.Counting.{all-taken}
 use Rattle.locating.proofs.Indexed.{Indexed}
 
 -- a read inside goes on
-pub reads : (s : List ℕ) (place bytes : ℕ) (next : Located) → place + bytes ≤ length s → reading (readable s place bytes) next ≡ next
-unfolding reading readable
+pub reads : (s : List ℕ) (place bytes : ℕ) (next : Located) → place + bytes ≤ length s → (if readable s place bytes then next else Refused 25) ≡ next
+unfolding readable
 reads s place bytes next h = if-true _ next (Refused 25) (le-leb _ _ h)
 
 -- a list is its beginning and its rest
@@ -33,16 +35,16 @@ joined : (key p q : List ℕ) (n : ℕ) → take n key ≡ p → drop n key ≡ 
 joined key p q n e f = sym (take-append-drop n key) ∙ ap₂ (λ (u v : List ℕ). u ++ v) e f
 
 module _ (s : List ℕ) (o : Opened) (key : List ℕ) (limit pos : ℕ) (h : KeyHeader)
-    (a : o .arena + h .anchor + h .shared ≤ length s) (b : pos + keyHeaderOf (o .encoding) + h .«suffix_len» ≤ length s) where
+    (a : o .arena + h .anchor + h .shared ≤ length s) (b : pos + keyHeaderLenOf (o .encoding) + h .«suffix_len» ≤ length s) where
   -- of its own key the record's versions are asked
-  record-own : key ≡ take (h .shared) (drop (o .arena + h .anchor) s) ++ take (h .«suffix_len») (drop (pos + keyHeaderOf (o .encoding)) s)
-      → keyRecordOf s o key limit pos h ≡ versionsFrom (h .versions) s o (pos + keyHeaderOf (o .encoding) + h .«suffix_len») limit
+  record-own : key ≡ take (h .shared) (drop (o .arena + h .anchor) s) ++ take (h .«suffix_len») (drop (pos + keyHeaderLenOf (o .encoding)) s)
+      → keyRecordOf s o key limit pos h ≡ versionsFrom (h .versions) s o (pos + keyHeaderLenOf (o .encoding) + h .«suffix_len») limit
   unfolding keyRecordOf
   record-own e =
       let p = take (h .shared) (drop (o .arena + h .anchor) s) in
-      let q = take (h .«suffix_len») (drop (pos + keyHeaderOf (o .encoding)) s) in
+      let q = take (h .«suffix_len») (drop (pos + keyHeaderLenOf (o .encoding)) s) in
       let n = part-length s (o .arena + h .anchor) (h .shared) a in
-      let m = part-length s (pos + keyHeaderOf (o .encoding)) (h .«suffix_len») b in
+      let m = part-length s (pos + keyHeaderLenOf (o .encoding)) (h .«suffix_len») b in
       let l : length key ≡ h .shared + h .«suffix_len» = omega (arith, ap length e, length-append p q) in
       if-true _ _ _ (eq-eqb _ _ l)
       ∙ reads s _ _ _ a
@@ -51,7 +53,7 @@ module _ (s : List ℕ) (o : Opened) (key : List ℕ) (limit pos : ℕ) (h : Key
       ∙ if-true _ _ _ (equalBytes-same _ _ (ap (drop (h .shared)) e ∙ drop-at p q (h .shared) n))
 
   -- of another key nothing is found
-  record-other : (key ≡ take (h .shared) (drop (o .arena + h .anchor) s) ++ take (h .«suffix_len») (drop (pos + keyHeaderOf (o .encoding)) s) → ⊥)
+  record-other : (key ≡ take (h .shared) (drop (o .arena + h .anchor) s) ++ take (h .«suffix_len») (drop (pos + keyHeaderLenOf (o .encoding)) s) → ⊥)
       → keyRecordOf s o key limit pos h ≡ Missing
   unfolding keyRecordOf
   record-other n =
@@ -94,41 +96,41 @@ module _ (s : List ℕ) (o : Opened) («data» : List ℕ) (es : List Entry) (x 
 
   -- key k, as its record names its parts
   key-parts : (k : ℕ) → k < o .count → keyAt s o k
-      ≡ take (headerOfKey s o k .shared) (drop (o .arena + headerOfKey s o k .anchor) s)
-      ++ take (headerOfKey s o k .«suffix_len») (drop (o .arena + addressOf s o k + keyHeaderOf (o .encoding)) s)
+      ≡ take (keyHeaderOf s o k .shared) (drop (o .arena + keyHeaderOf s o k .anchor) s)
+      ++ take (keyHeaderOf s o k .«suffix_len») (drop (o .arena + addressOf s o k + keyHeaderLenOf (o .encoding)) s)
   unfolding keyAt suffixPlace
   key-parts k h =
-      ap (λ (p : ℕ). take (headerOfKey s o k .shared) (drop p s) ++ take (headerOfKey s o k .«suffix_len») (drop (suffixPlace s o k) s))
+      ap (λ (p : ℕ). take (keyHeaderOf s o k .shared) (drop p s) ++ take (keyHeaderOf s o k .«suffix_len») (drop (suffixPlace s o k) s))
       (sym (x .anchor-place k h))
 
   -- they lie in the section
-  anchor-inside : (k : ℕ) → k < o .count → o .arena + headerOfKey s o k .anchor + headerOfKey s o k .shared ≤ length s
+  anchor-inside : (k : ℕ) → k < o .count → o .arena + keyHeaderOf s o k .anchor + keyHeaderOf s o k .shared ≤ length s
   anchor-inside k h = omega (arith, x .anchor-place k h, x .shared-inside k h)
 
-  suffix-inside : (k : ℕ) → k < o .count → o .arena + addressOf s o k + keyHeaderOf (o .encoding) + headerOfKey s o k .«suffix_len» ≤ length s
+  suffix-inside : (k : ℕ) → k < o .count → o .arena + addressOf s o k + keyHeaderLenOf (o .encoding) + keyHeaderOf s o k .«suffix_len» ≤ length s
   unfolding suffixPlace
   suffix-inside k h = x .suffix-inside k h
 
   -- the first version stands behind the suffix
-  first-place : (k : ℕ) → o .arena + addressOf s o k + keyHeaderOf (o .encoding) + headerOfKey s o k .«suffix_len» ≡ versionPlace s o k 0
+  first-place : (k : ℕ) → o .arena + addressOf s o k + keyHeaderLenOf (o .encoding) + keyHeaderOf s o k .«suffix_len» ≡ versionPlace s o k 0
   unfolding versionPlace suffixPlace
   first-place k = omega arith
 
   -- in its record a key of the arena meets its own versions
   key-own : (k : ℕ) → k < o .count → (limit : ℕ)
-      → keyRecordAt s o (keyAt s o k) limit (o .arena + addressOf s o k) ≡ versionsFrom (versionsOf s o k) s o (versionPlace s o k 0) limit
-  unfolding keyRecordAt headerOfKey versionsOf
+      → keyRecordAt s o (keyAt s o k) limit (o .arena + addressOf s o k) ≡ versionsFrom (versionCount s o k) s o (versionPlace s o k 0) limit
+  unfolding keyRecordAt keyHeaderOf versionCount
   key-own k h limit =
       reads s _ _ _ (x .header-inside k h)
-      ∙ record-own s o (keyAt s o k) limit (o .arena + addressOf s o k) (headerOfKey s o k) (anchor-inside k h) (suffix-inside k h) (key-parts k h)
-      ∙ ap (λ (p : ℕ). versionsFrom (versionsOf s o k) s o p limit) (first-place k)
+      ∙ record-own s o (keyAt s o k) limit (o .arena + addressOf s o k) (keyHeaderOf s o k) (anchor-inside k h) (suffix-inside k h) (key-parts k h)
+      ∙ ap (λ (p : ℕ). versionsFrom (versionCount s o k) s o p limit) (first-place k)
 
   -- and any other key nothing
   key-other : (k : ℕ) → k < o .count → (key : List ℕ) (limit : ℕ) → (key ≡ keyAt s o k → ⊥) → keyRecordAt s o key limit (o .arena + addressOf s o k) ≡ Missing
-  unfolding keyRecordAt headerOfKey
+  unfolding keyRecordAt keyHeaderOf
   key-other k h key limit n =
       reads s _ _ _ (x .header-inside k h)
-      ∙ record-other s o key limit (o .arena + addressOf s o k) (headerOfKey s o k) (anchor-inside k h) (suffix-inside k h) (λ e. n (e ∙ sym (key-parts k h)))
+      ∙ record-other s o key limit (o .arena + addressOf s o k) (keyHeaderOf s o k) (anchor-inside k h) (suffix-inside k h) (λ e. n (e ∙ sym (key-parts k h)))
 
   -- its slot leads a key of the arena to its record
   slot-own : (k : ℕ) → k < o .count → (limit : ℕ)
@@ -156,7 +158,7 @@ module _ (s : List ℕ) (o : Opened) («data» : List ℕ) (es : List Entry) (x 
 
   -- of a key of the arena its versions are asked
   pub located-own : (k : ℕ) → k < o .count → (limit : ℕ)
-      → locateOf s o (keyAt s o k) limit ≡ versionsFrom (versionsOf s o k) s o (versionPlace s o k 0) limit
+      → locateOf s o (keyAt s o k) limit ≡ versionsFrom (versionCount s o k) s o (versionPlace s o k 0) limit
   unfolding keyHash
   located-own k h limit = slot-met (keyAt s o k) limit ∙ slot-own k h limit ∙ key-own k h limit
 

@@ -12,18 +12,19 @@ use Rattle.num.specs.Choice.{both}
 use Rattle.num.proofs.Choice.{if-true, if-false, true-both}
 use Rattle.num.proofs.Steps.{first-or-later}
 use Rattle.block.specs.Walk.{Entry}
-use Rattle.encoding.specs.Encoding.{versionOf}
+use Rattle.encoding.specs.Encoding.{versionLenOf}
 use Rattle.header.specs.declared.Opened.{Opened}
-use Rattle.arena.specs.Version.{storedSeq}
-use Rattle.opening.specs.Walk.{valueOf}
-use Rattle.agreement.specs.Keys.{versionsOf, keyAt, firstVersion, versionPlace, versionSeq, versionKind, versionLength, versionOffset, versionChecksum}
+use Rattle.versions.specs.Version.{storedSeq}
+use Rattle.validate.specs.Walk.{valueOf}
+use Rattle.agreement.specs.Keys.{versionCount, keyAt, firstVersion, versionPlace, versionSeq, versionKind, versionLength, versionOffset, versionChecksum}
 use Rattle.agreement.specs.Agrees.{entryAt}
 use Rattle.agreement.proofs.Laws.{member-index, index-member}
 use Rattle.admission.specs.Blocks.{storeEntries}
 use Rattle.admission.proofs.Stored.{StoredEntry}
-use Rattle.lookup.specs.declared.Located.{Located}
-use Rattle.lookup.specs.declared.Located.the-variants.{Found, Missing, Refused}
-use Rattle.lookup.specs.Lookup.{readable, reading, locatorAt, versionsFrom}
+use Rattle.locator.specs.declared.Located.{Located}
+use Rattle.locator.specs.declared.Located.the-variants.{Found, Missing, Refused}
+use Rattle.num.specs.Choice.{if_then_else_}
+use Rattle.locator.specs.Locator.{readable, locatorAt, versionsFrom}
 use Rattle.lookup.specs.Value.{valueInside, valuePart, valueNumber}
 use Rattle.locating.specs.Store.{LinkerStore, Version, versionIn, storeVersions, Holds}
 use Rattle.locating.specs.Looks.{Answers}
@@ -36,43 +37,43 @@ use Rattle.locating.proofs.Reading.{reads}
 unfoldable tested : Located → Located → Bool → Bool → Located
 tested met passed inside within = elim inside [ true ↦ elim within [ true ↦ met | false ↦ passed ] | false ↦ Refused 25 ]
 
-module _ (s : List ℕ) (o : Opened) (pos limit count : ℕ) (r : pos + versionOf (o .encoding) ≤ length s) (b : storedSeq s o pos < 2 ^ 64) where
+module _ (s : List ℕ) (o : Opened) (pos limit count : ℕ) (r : pos + versionLenOf (o .encoding) ≤ length s) (b : storedSeq s o pos < 2 ^ 64) where
   -- its sequence lies in the section, and is below 2^64
   version-asked : both (readable s pos (o .encoding .seq)) (ltb (storedSeq s o pos) (2 ^ 64)) ≡ true
-  unfolding readable versionOf
+  unfolding readable versionLenOf
   version-asked = let l : pos + o .encoding .seq ≤ length s = omega arith in true-both _ _ (le-leb _ _ l) (lt-ltb _ _ b)
 
   -- so the limit decides
   version-decided : (within : Bool) → leb (storedSeq s o pos) limit ≡ within → versionsFrom (suc count) s o pos limit
-      ≡ tested (reading (readable s pos (versionOf (o .encoding))) (Found (locatorAt s o pos))) (versionsFrom count s o (pos + versionOf (o .encoding)) limit) true within
+      ≡ tested (if readable s pos (versionLenOf (o .encoding)) then Found (locatorAt s o pos) else Refused 25) (versionsFrom count s o (pos + versionLenOf (o .encoding)) limit) true within
   unfolding versionsFrom tested
   version-decided within e =
-      ap₂ (tested (reading (readable s pos (versionOf (o .encoding))) (Found (locatorAt s o pos))) (versionsFrom count s o (pos + versionOf (o .encoding)) limit))
+      ap₂ (tested (if readable s pos (versionLenOf (o .encoding)) then Found (locatorAt s o pos) else Refused 25) (versionsFrom count s o (pos + versionLenOf (o .encoding)) limit))
       version-asked e
 
   -- within the limit it is answered
   version-met : storedSeq s o pos ≤ limit → versionsFrom (suc count) s o pos limit ≡ Found (locatorAt s o pos)
   unfolding tested
-  version-met h = version-decided true (le-leb _ _ h) ∙ reads s pos (versionOf (o .encoding)) (Found (locatorAt s o pos)) r
+  version-met h = version-decided true (le-leb _ _ h) ∙ reads s pos (versionLenOf (o .encoding)) (Found (locatorAt s o pos)) r
 
   -- above it it is passed
-  version-passed : limit < storedSeq s o pos → versionsFrom (suc count) s o pos limit ≡ versionsFrom count s o (pos + versionOf (o .encoding)) limit
+  version-passed : limit < storedSeq s o pos → versionsFrom (suc count) s o pos limit ≡ versionsFrom count s o (pos + versionLenOf (o .encoding)) limit
   unfolding tested
   version-passed h = version-decided false (lt-leb _ _ h)
 
 -- version i of key k is within the limit, and those before it from a version on are above
 pub record FirstWithin (s : List ℕ) (o : Opened) (k limit from i : ℕ) : Type 0 where
-  pub below : i < versionsOf s o k
+  pub below : i < versionCount s o k
   pub within : versionSeq s o k i ≤ limit
   pub earlier : (m : ℕ) → from ≤ m → m < i → limit < versionSeq s o k m
 
 -- the answer of the versions of key k from one on
 pub data Answered (s : List ℕ) (o : Opened) (k limit from : ℕ) (answer : Located) : Type 0 where
-  none : ((m : ℕ) → from ≤ m → m < versionsOf s o k → limit < versionSeq s o k m) → answer ≡ Missing → Answered s o k limit from answer
+  none : ((m : ℕ) → from ≤ m → m < versionCount s o k → limit < versionSeq s o k m) → answer ≡ Missing → Answered s o k limit from answer
   first : (i : ℕ) → FirstWithin s o k limit from i → answer ≡ Found (locatorAt s o (versionPlace s o k i)) → Answered s o k limit from answer
 
 -- a version is followed by the next
-next-place : (s : List ℕ) (o : Opened) (k j : ℕ) → versionPlace s o k j + versionOf (o .encoding) ≡ versionPlace s o k (suc j)
+next-place : (s : List ℕ) (o : Opened) (k j : ℕ) → versionPlace s o k j + versionLenOf (o .encoding) ≡ versionPlace s o k (suc j)
 unfolding versionPlace
 next-place s o k j = omega arith
 
@@ -92,12 +93,12 @@ answered-behind s o k limit j answer rest a e (first i w f) =
 
 module _ (s : List ℕ) (o : Opened) («data» : List ℕ) (es : List Entry) (x : Indexed s o «data» es) (k : ℕ) (h : k < o .count) (limit : ℕ) where
   -- the walk over the versions of key k from one on answers so
-  pub answered : (count j : ℕ) → j + count ≡ versionsOf s o k → Answered s o k limit j (versionsFrom count s o (versionPlace s o k j) limit)
+  pub answered : (count j : ℕ) → j + count ≡ versionCount s o k → Answered s o k limit j (versionsFrom count s o (versionPlace s o k j) limit)
   unfolding versionsFrom versionSeq
   answered zero j n = none (λ m p q. absurd (omega arith)) refl
   answered (suc count) j n = go (leb (versionSeq s o k j) limit) refl (answered count (suc j) (omega arith))
     where
-      l : j < versionsOf s o k
+      l : j < versionCount s o k
       l = omega arith
 
       go : (b : Bool) → leb (versionSeq s o k j) limit ≡ b → Answered s o k limit (suc j) (versionsFrom count s o (versionPlace s o k (suc j)) limit)
@@ -134,13 +135,13 @@ pub record Listed (t : LinkerStore) (v : Version) : Type 0 where
   pub key : ℕ
   pub version : ℕ
   pub key-below : key < t .opened .count
-  pub version-below : version < versionsOf (t .bytes) (t .opened) key
+  pub version-below : version < versionCount (t .bytes) (t .opened) key
   pub same : versionAt t key version ≡ v
 
 module _ (t : LinkerStore) (x : Indexed (t .bytes) (t .opened) (t .backing) (storeEntries (t .backing) (t .blocks))) where
   open LinkerStore t using (bytes as s, backing as «data», blocks, opened as o)
 
-  module _ (k j : ℕ) (h : k < o .count) (l : j < versionsOf s o k) where
+  module _ (k j : ℕ) (h : k < o .count) (l : j < versionCount s o k) where
     -- its key, its sequence, and that the store holds it
     pub version-key : versionAt t k j .key ≡ keyAt s o k
     unfolding versionAt versionIn
@@ -189,16 +190,16 @@ module _ (t : LinkerStore) (x : Indexed (t .bytes) (t .opened) (t .backing) (sto
 
   -- a version of key k is one of its versions
   pub own-version : (k : ℕ) → k < o .count → (v : Version) → Holds t v → v .key ≡ keyAt s o k
-      → (j : ℕ) × (j < versionsOf s o k) × (versionAt t k j ≡ v)
+      → (j : ℕ) × (j < versionCount s o k) × (versionAt t k j ≡ v)
   own-version k h v m e =
       let y = listed v m in
       let c : keyAt s o (y .key) ≡ keyAt s o k =
       sym (version-key (y .key) (y .version) (y .key-below) (y .version-below)) ∙ ap (λ (w : Version). w .key) (y .same) ∙ e in
-      subst (λ (i : ℕ). (j : ℕ) × (j < versionsOf s o i) × (versionAt t i j ≡ v)) (x .key-names (y .key) k (y .key-below) h c)
+      subst (λ (i : ℕ). (j : ℕ) × (j < versionCount s o i) × (versionAt t i j ≡ v)) (x .key-names (y .key) k (y .key-below) h c)
       (y .version, y .version-below, y .same)
 
   -- a sequence names one version of a key
-  seq-names : (k i j : ℕ) → k < o .count → i < versionsOf s o k → j < versionsOf s o k → versionSeq s o k i ≡ versionSeq s o k j → i ≡ j
+  seq-names : (k i j : ℕ) → k < o .count → i < versionCount s o k → j < versionCount s o k → versionSeq s o k i ≡ versionSeq s o k j → i ≡ j
   seq-names k i j h p q e =
       let a : i < j → ⊥ = λ l. let z = x .falling k i j h l q in omega arith in
       let b : j < i → ⊥ = λ l. let z = x .falling k j i h l p in omega arith in

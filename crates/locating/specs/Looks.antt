@@ -6,9 +6,9 @@ use mathlib.Core.List.{List}
 use Prim.Native.Nat.{ℕ, _≤_}
 use lib.ListN.{length}
 use Rattle.crc32.specs.V42.{crcOf}
-use Rattle.lookup.specs.declared.ValueLocator.{ValueLocator}
-use Rattle.lookup.specs.declared.Located.{Located}
-use Rattle.lookup.specs.declared.Located.the-variants.{Found, Missing, Refused}
+use Rattle.locator.specs.declared.ValueLocator.{ValueLocator}
+use Rattle.locator.specs.declared.Located.{Located}
+use Rattle.locator.specs.declared.Located.the-variants.{Found, Missing, Refused}
 use Rattle.lookup.specs.Lookup.{locateOf}
 use Rattle.lookup.specs.Value.{valuePart, valueNumber}
 use Rattle.locating.specs.Store.{LinkerStore, Store, Version, Within}
@@ -48,6 +48,6 @@ pub record Looks (t : LinkerStore) (key : List ℕ) (limit : ℕ) : Type 0 where
   -- 24 and 25 do not occur
   pub never : (n : ℕ) → lookup t key limit ≡ Refused n → ⊥
 
--- promise P3: so looks every lookup in an accepted store, plain or packed
+-- promise P3: every lookup in an accepted store, plain or packed, promises this
 unfoldable pub LooksExactly : Type 0
 LooksExactly = (t : LinkerStore) → Store t → (key : List ℕ) (limit : ℕ) → Looks t key limit

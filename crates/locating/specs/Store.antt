@@ -7,8 +7,8 @@ use Rattle.num.specs.Number.{Bytes}
 use Rattle.sstable.specs.declared.Kind.{Kind}
 use Rattle.block.specs.Walk.{Entry}
 use Rattle.header.specs.declared.Opened.{Opened}
-use Rattle.header.specs.declared.HeaderRead.the-variants as header-read
-use Rattle.opening.specs.Walk.{valueOf}
+use Rattle.header.specs.declared.HeaderRead.the-variants.{Accepted}
+use Rattle.validate.specs.Walk.{valueOf}
 use Rattle.opening.specs.Open.{openOf}
 use Rattle.packing.specs.Packing.{packedAs, openPackedOf}
 use Rattle.admission.specs.Blocks.{storeEntries}
@@ -21,14 +21,14 @@ pub record LinkerStore : Type 0 where
   pub opened : Opened
 
 -- an opening accepted it: the plain opening these bytes, or the packed opening a section, which it wrote as these bytes
-pub data Accepted (t : LinkerStore) : Type 0 where
-  plain : (scratch : ℕ) → openOf (t .bytes) (t .backing) (t .blocks) scratch ≡ header-read.Accepted (t .opened) → Accepted t
-  packed : (section : List ℕ) (scratch room : ℕ) → openPackedOf section (t .backing) (t .blocks) scratch room ≡ packedAs (t .opened) (t .bytes)
-      → Accepted t
+pub data AcceptedBy (t : LinkerStore) : Type 0 where
+  plainOpening : (scratch : ℕ) → openOf (t .bytes) (t .backing) (t .blocks) scratch ≡ Accepted (t .opened) → AcceptedBy t
+  packedOpening : (section : List ℕ) (scratch room : ℕ) → openPackedOf section (t .backing) (t .blocks) scratch room ≡ packedAs (t .opened) (t .bytes)
+      → AcceptedBy t
 
 -- an accepted store, whose data are bytes
 pub record Store (t : LinkerStore) : Type 0 where
-  pub accepted : Accepted t
+  pub accepted : AcceptedBy t
   pub data-bytes : Bytes (t .backing)
 
 -- a version, as the blocks hold it

@@ -12,19 +12,20 @@ use borrow.Author.Tests.{leb-true, le-leb, lt-leb, eq-eqb, ne-eqb}
 use Rattle.num.specs.Choice.{if_then_else_}
 use Rattle.num.specs.Order.{equalBytes}
 use Rattle.num.proofs.Choice.{if-true, if-false}
-use Rattle.encoding.specs.Encoding.{keyHeaderOf}
+use Rattle.encoding.specs.Encoding.{keyHeaderLenOf}
 use Rattle.header.specs.declared.Opened.{Opened}
 use Rattle.arena.specs.declared.KeyHeader.{KeyHeader}
 use Rattle.arena.specs.Key.{keyHeaderAt}
-use Rattle.lookup.specs.declared.Located.{Located}
-use Rattle.lookup.specs.declared.Located.the-variants.{Missing, Refused}
-use Rattle.lookup.specs.Lookup.{readable, reading, versionsFrom, keyRecordOf, keyRecordAt}
+use Rattle.locator.specs.declared.Located.{Located}
+use Rattle.locator.specs.declared.Located.the-variants.{Missing, Refused}
+use Rattle.lookup.specs.Lookup.{keyRecordOf, keyRecordAt}
+use Rattle.locator.specs.Locator.{readable, versionsFrom}
 use Rattle.lookup.proofs.Tests.{room-from}
 
 module _ (s : List ℕ) (o : Opened) (key : List ℕ) (limit pos : ℕ) (h : KeyHeader) where
   -- where the suffix stands
   abbrev suffixAt : ℕ
-  suffixAt = pos + keyHeaderOf (o .encoding)
+  suffixAt = pos + keyHeaderLenOf (o .encoding)
 
   abbrev sameSuffix : Bool
   sameSuffix = equalBytes (drop (h .shared) key) (take (h .«suffix_len») (drop suffixAt s))
@@ -38,7 +39,7 @@ module _ (s : List ℕ) (o : Opened) (key : List ℕ) (limit pos : ℕ) (h : Key
 
   -- once the anchor's part is read
   abbrev fromAnchor : Located
-  fromAnchor = if_then_else_ sameAnchor (reading (readable s suffixAt (h .«suffix_len»)) fromSuffix) Missing
+  fromAnchor = if_then_else_ sameAnchor (if readable s suffixAt (h .«suffix_len») then fromSuffix else Refused 25) Missing
 
   pub other-length : (length key ≡ h .shared + h .«suffix_len» → ⊥) → Missing ≡ keyRecordOf s o key limit pos h
   unfolding keyRecordOf
@@ -46,7 +47,7 @@ module _ (s : List ℕ) (o : Opened) (key : List ℕ) (limit pos : ℕ) (h : Key
 
   module _ (len : length key ≡ h .shared + h .«suffix_len») (start : o .arena ≤ length s) where
     pub anchor-outside : leb (h .anchor + h .shared) (length s - o .arena) ≡ false → Refused 25 ≡ keyRecordOf s o key limit pos h
-    unfolding keyRecordOf reading readable
+    unfolding keyRecordOf readable
     anchor-outside f =
         ((sym (if-false _ fromAnchor _ (sym (room-from (o .arena) (h .anchor) (h .shared) (length s) start) ∙ f))) ∙ sym (if-true _ _ _ (eq-eqb _ _ len)))
 
@@ -56,24 +57,24 @@ module _ (s : List ℕ) (o : Opened) (key : List ℕ) (limit pos : ℕ) (h : Key
       anchor-inside = let l = leb-true (h .anchor + h .shared) (length s - o .arena) inside in omega arith
 
       from-anchor : (r : Located) → r ≡ fromAnchor → r ≡ keyRecordOf s o key limit pos h
-      unfolding keyRecordOf reading readable
+      unfolding keyRecordOf readable
       from-anchor r e =
           ((e ∙ sym (if-true _ fromAnchor _ (le-leb (o .arena + h .anchor + h .shared) (length s) anchor-inside))) ∙ sym (if-true _ _ _ (eq-eqb _ _ len)))
 
       pub other-anchor : sameAnchor ≡ false → Missing ≡ keyRecordOf s o key limit pos h
       other-anchor f = from-anchor Missing (sym (if-false _ _ _ f))
 
-      module _ (front : sameAnchor ≡ true) (size : ℕ) (header : size ≡ keyHeaderOf (o .encoding)) (before : pos + size ≤ length s) where
-        from-suffix : (r : Located) → r ≡ reading (readable s suffixAt (h .«suffix_len»)) fromSuffix → r ≡ keyRecordOf s o key limit pos h
+      module _ (front : sameAnchor ≡ true) (size : ℕ) (header : size ≡ keyHeaderLenOf (o .encoding)) (before : pos + size ≤ length s) where
+        from-suffix : (r : Located) → r ≡ (if readable s suffixAt (h .«suffix_len») then fromSuffix else Refused 25) → r ≡ keyRecordOf s o key limit pos h
         from-suffix r e = from-anchor r (e ∙ sym (if-true _ _ _ front))
 
         pub suffix-outside : length s - (pos + size) < h .«suffix_len» → Refused 25 ≡ keyRecordOf s o key limit pos h
-        unfolding reading readable
+        unfolding readable
         suffix-outside l = from-suffix (Refused 25) (sym (if-false _ fromSuffix _ (lt-leb (suffixAt + h .«suffix_len») (length s) (omega arith))))
 
         module _ (behind : h .«suffix_len» ≤ length s - (pos + size)) where
           suffix-read : (r : Located) → r ≡ fromSuffix → r ≡ keyRecordOf s o key limit pos h
-          unfolding reading readable
+          unfolding readable
           suffix-read r e = from-suffix r (e ∙ sym (if-true _ _ _ (le-leb (suffixAt + h .«suffix_len») (length s) (omega arith))))
 
           -- the key's rest is as long as the suffix
@@ -98,19 +99,19 @@ module _ (s : List ℕ) (o : Opened) (key : List ℕ) (limit pos : ℕ) (h : Key
 
 -- ---- the key record at an address
 
-module _ (s : List ℕ) (o : Opened) (key : List ℕ) (limit address : ℕ) (start : o .arena ≤ length s) {size : ℕ} (header : size ≡ keyHeaderOf (o .encoding)) where
+module _ (s : List ℕ) (o : Opened) (key : List ℕ) (limit address : ℕ) (start : o .arena ≤ length s) {size : ℕ} (header : size ≡ keyHeaderLenOf (o .encoding)) where
   -- its header is not read outside the section
-  read : {b : Bool} → leb (address + size) (length s - o .arena) ≡ b → leb (o .arena + address + keyHeaderOf (o .encoding)) (length s) ≡ b
+  read : {b : Bool} → leb (address + size) (length s - o .arena) ≡ b → leb (o .arena + address + keyHeaderLenOf (o .encoding)) (length s) ≡ b
   read e =
       ap (λ (n : ℕ). leb (o .arena + address + n) (length s)) (sym header)
       ∙ sym (room-from (o .arena) address size (length s) start)
       ∙ e
 
   pub address-outside : leb (address + size) (length s - o .arena) ≡ false → Refused 25 ≡ keyRecordAt s o key limit (o .arena + address)
-  unfolding keyRecordAt reading readable
+  unfolding keyRecordAt readable
   address-outside f = sym (if-false _ _ _ (read f))
 
   pub address-inside : leb (address + size) (length s - o .arena) ≡ true → {h : KeyHeader} → h ≡ keyHeaderAt s (o .encoding) (o .arena + address)
       → keyRecordOf s o key limit (o .arena + address) h ≡ keyRecordAt s o key limit (o .arena + address)
-  unfolding keyRecordAt reading readable
+  unfolding keyRecordAt readable
   address-inside t e = (ap (keyRecordOf s o key limit (o .arena + address)) e) ∙ sym (if-true _ _ _ (read t))

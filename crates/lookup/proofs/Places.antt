@@ -17,12 +17,13 @@ use Rattle.point.proofs.Slots.{bucket-lt, position-lt, slot-direct, slot-positi
 use Rattle.encoding.specs.Encoding.{Widths}
 use Rattle.encoding.proofs.Widths.{widths-le}
 use Rattle.header.specs.declared.Opened.{Opened}
-use Rattle.header.specs.Facts.{Header, PackedHeader, IsRecord, plain, packed}
+use Rattle.header.specs.Facts.{Header, PackedHeader, IsRecord, fromPlain, fromPacked}
 use Rattle.header.proofs.Headers.{header-plain, header-packed}
 use Rattle.header.proofs.Bounds.{product-le, buckets-range, pilot-inside, packed-pilot-inside, arena-end, record-dimensions}
-use Rattle.lookup.specs.Lookup.{readable, reading, unpacked, pilotLen, pilotOffset, pilotOf, slotLen, slotOffset, keyRecordAt, slotRead, hashRead}
-use Rattle.lookup.specs.declared.Located.{Located}
-use Rattle.lookup.specs.declared.Located.the-variants.{Missing, Refused}
+use Rattle.lookup.specs.Lookup.{unpacked, pilotLen, pilotOffset, pilotOf, slotLen, slotOffset, keyRecordAt, slotRead, hashRead}
+use Rattle.locator.specs.Locator.{readable}
+use Rattle.locator.specs.declared.Located.{Located}
+use Rattle.locator.specs.declared.Located.the-variants.{Missing, Refused}
 
 -- ---- pilots
 
@@ -89,12 +90,12 @@ module _ (s : List ℕ) (o : Opened) (key : List ℕ) (limit h at : ℕ) where
   named = if_then_else_ agrees (keyRecordAt s o key limit (o .arena + leAt s at (o .encoding .address))) Missing
 
   pub slot-outside : length s < at + slotLen o → Refused 25 ≡ slotRead s o key limit h at
-  unfolding slotRead reading readable
+  unfolding slotRead readable
   slot-outside l = sym (if-false _ named _ (lt-leb (at + slotLen o) (length s) l))
 
   module _ (inside : at + slotLen o ≤ length s) where
     from-slot : (r : Located) → r ≡ named → r ≡ slotRead s o key limit h at
-    unfolding slotRead reading readable
+    unfolding slotRead readable
     from-slot r e = e ∙ sym (if-true _ named _ (le-leb (at + slotLen o) (length s) inside))
 
     pub other-fingerprint : agrees ≡ false → Missing ≡ slotRead s o key limit h at
@@ -107,12 +108,12 @@ module _ (s : List ℕ) (o : Opened) (key : List ℕ) (limit h at : ℕ) where
 -- ---- records
 
 pub packed-header : (s : List ℕ) (o : Opened) → IsRecord s o → o .packed ≡ true → PackedHeader s o
-packed-header s o (plain h) e = false-true (sym (header-plain s o h) ∙ e)
-packed-header s o (packed h) e = h
+packed-header s o (fromPlain h) e = false-true (sym (header-plain s o h) ∙ e)
+packed-header s o (fromPacked h) e = h
 
 pub plain-header : (s : List ℕ) (o : Opened) → IsRecord s o → o .packed ≡ false → Header s o
-plain-header s o (plain h) e = h
-plain-header s o (packed h) e = false-true (sym e ∙ header-packed s o h)
+plain-header s o (fromPlain h) e = h
+plain-header s o (fromPacked h) e = false-true (sym e ∙ header-packed s o h)
 
 module _ (s : List ℕ) (o : Opened) (r : IsRecord s o) where
   pub record-widths : Widths (o .encoding)
@@ -177,7 +178,7 @@ module _ (s : List ℕ) (o : Opened) (r : IsRecord s o) where
 
     -- so a lookup comes to its slot
     pub hash-read : (key : List ℕ) (limit : ℕ) → hashRead s o key limit h ≡ slotRead s o key limit h (slotOffset s o h)
-    unfolding hashRead reading readable
+    unfolding hashRead readable
     hash-read key limit = if-true _ _ _ (le-leb _ _ pilot-read)
 
     -- the place of the slot is below 2^36

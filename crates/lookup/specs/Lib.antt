@@ -1,2 +1,2 @@
-pub mod Lookup
 pub mod Value
+pub mod Lookup

@@ -4,7 +4,7 @@ use mathlib.Core.List.{List, []}
 use mathlib.Core.Bool.{Bool}
 use lib.Dec.{leb}
 use lib.ListN.{length, take, drop}
-use Rattle.num.specs.Choice.{if_then_else_}
+use Rattle.num.specs.Choice.{ask_otherwise_then_}
 
 -- question 26: do offset and length lie in the data?
 unfoldable pub valueInside : List ℕ → ℕ → ℕ → Bool
@@ -12,13 +12,17 @@ valueInside «data» offset len = leb (offset + len) (length «data»)
 
 -- the part itself, empty on refusal
 unfoldable pub valuePart : List ℕ → ℕ → ℕ → List ℕ
-valuePart «data» offset len = if valueInside «data» offset len then take len (drop offset «data») else []
+valuePart «data» offset len =
+    ask valueInside «data» offset len otherwise [] then
+    take len (drop offset «data»)
 
 -- 0, or 26
 unfoldable pub valueNumber : List ℕ → ℕ → ℕ → ℕ
-valueNumber «data» offset len = if valueInside «data» offset len then 0 else 26
+valueNumber «data» offset len =
+    ask valueInside «data» offset len otherwise 26 then
+    0
 
--- names all definitions of this file: `unfolding value-defs` opens them
+-- for proofs alone: `unfolding value-defs` opens the definitions of this file
 unfoldable pub value-defs : ℕ
 unfolding valueInside valuePart valueNumber
 value-defs = 0

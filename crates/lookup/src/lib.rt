@@ -2,51 +2,19 @@
 ghost use mathlib.Core.Path.{_≡_};
 ghost use Prim.Native.Nat.{_+_, _*_, _<_, _≤_, _^_};
 ghost use lib.Dec.{leb, eqb};
-ghost use lib.ListN.{length, take, drop};
-ghost use Rattle.num.specs.Choice.{if_then_else_, either};
+ghost use lib.ListN.{length};
+ghost use Rattle.num.specs.Choice.{either};
 ghost use Rattle.num.specs.Number.{leAt};
-ghost use Rattle.num.specs.Order.{equalBytes};
 ghost use Rattle.point.specs.Hash.{fingerprintOf};
-ghost use Rattle.encoding.specs.Encoding.{Widths, keyHeaderOf, versionOf, tombstoneOf};
+ghost use Rattle.encoding.specs.Encoding.{Widths, keyHeaderLenOf};
 ghost use Rattle.header.specs.Facts.{IsRecord};
-ghost use Rattle.arena.specs.Inside.{Narrow};
-ghost use Rattle.arena.specs.Version.{storedSeq, kindIn, lengthIn, storedChecksum};
+ghost use Rattle.arena.specs.Internal.{Narrow};
 ghost use Rattle.lookup.specs.Value.{valuePart, valueNumber};
-ghost use Rattle.lookup.specs.Lookup.{
-  unpacked,
-  pilotLen,
-  pilotOf,
-  slotLen,
-  slotOffset,
-  locatorAt,
-  readable,
-  reading,
-  versionsFrom,
-  keyRecordOf,
-  keyRecordAt,
-  slotRead,
-  locateOf,
-};
+ghost use Rattle.lookup.specs.Lookup.{unpacked, pilotLen, pilotOf, slotLen, slotOffset, keyRecordOf, keyRecordAt, slotRead, locateOf};
 use arena::KeyHeader;
 use encoding::Encoding;
 use header::Opened;
-use sstable::Kind;
-
-// A version of a key: kind, sequence, the place and length of its value in the data, and its CRC-32, 0 without checksums.
-pub struct ValueLocator {
-    pub kind: Kind,
-    pub seq: u64,
-    pub offset: u64,
-    pub len: u64,
-    pub checksum: u64,
-}
-
-// The first stored version of the key that is not above the limit, none, or the number of the question that failed.
-pub enum Located {
-    Found(ValueLocator),
-    Missing,
-    Refused(u64),
-}
+use locator::Located;
 
 // Do so many bytes at a place end within a length? The sum may pass 2^64, the difference does not.
 fn inside(len: usize, place: u64, bytes: u64) -> bool
@@ -133,152 +101,6 @@ fn slot_at(section: &[u8], o: Opened, h: u64) -> usize
     Encoding::HEADER + pilot_len(o) * o.buckets + slot * slot_len(o)
 }
 
-// A tombstone has the top bit of the stored length.
-fn kind_in(o: Opened, stored: u64) -> Kind
-    requires { ⌜ Widths (o .encoding) ⌝ }
-    ensures { λ r. ⌜ r ≡ kindIn o stored ⌝ }
-{
-    let e = o.encoding;
-    if e.tombstone() <= stored {
-        return Kind::Tombstone;
-    }
-    Kind::Put
-}
-
-// The stored length without that bit.
-fn length_in(o: Opened, stored: u64) -> u64
-    requires { ⌜ Widths (o .encoding) ⌝ }
-    requires { ⌜ stored < 2 * tombstoneOf (o .encoding) ⌝ }
-    ensures { λ r. ⌜ r ≡ lengthIn o stored ⌝ }
-{
-    let e = o.encoding;
-    let tombstone = e.tombstone();
-    if tombstone <= stored {
-        return stored - tombstone;
-    }
-    stored
-}
-
-fn checksum_at(section: &[u8], o: Opened, pos: usize) -> u64
-    requires { ⌜ Widths (o .encoding) ⌝ }
-    requires { ⌜ pos + versionOf (o .encoding) ≤ length (now section) ⌝ }
-    ensures { λ r. ⌜ r ≡ (if o .encoding .checksum then storedChecksum (now (section .entry)) o pos else 0) ⌝ }
-{
-    let e = o.encoding;
-    if !e.checksum {
-        return 0;
-    }
-    num::u32_at(section, pos + e.seq + e.value + e.address) as u64
-}
-
-// The version at a place, whose sequence is known.
-fn locator_at(section: &[u8], o: Opened, pos: usize, seq: u64) -> ValueLocator
-    requires { ⌜ Widths (o .encoding) ⌝ }
-    requires { ⌜ pos + versionOf (o .encoding) ≤ length (now section) ⌝ }
-    requires { ⌜ seq ≡ storedSeq (now section) o pos ⌝ }
-    ensures { λ r. ⌜ r ≡ locatorAt (now (section .entry)) o pos ⌝ }
-{
-    let e = o.encoding;
-    let value_at = pos + e.seq;
-    let stored = num::uint(section, value_at, e.value);
-    ValueLocator {
-        kind: kind_in(o, stored),
-        seq,
-        offset: num::uint(section, value_at + e.value, e.address),
-        len: length_in(o, stored),
-        checksum: checksum_at(section, o, pos),
-    }
-}
-
-// The version at a place, if all of it lies in the section.
-fn version_at(section: &[u8], o: Opened, pos: usize, seq: u64) -> Located
-    requires { ⌜ Widths (o .encoding) ⌝ }
-    requires { ⌜ pos ≤ length (now section) ⌝ }
-    requires { ⌜ seq ≡ storedSeq (now section) o pos ⌝ }
-    ensures { λ r. ⌜ r ≡ reading (readable (now (section .entry)) pos (versionOf (o .encoding))) (Located.Found (locatorAt (now (section .entry)) o pos)) ⌝ }
-{
-    let e = o.encoding;
-    if section.len() - pos < e.version() {
-        return Located::Refused(25);
-    }
-    Located::Found(locator_at(section, o, pos, seq))
-}
-
-// The first of some versions whose sequence is not above the limit. A stored number above `most` has a sum beyond 64 bits.
-fn versions_from(section: &[u8], o: Opened, count: usize, from: usize, limit: u64) -> Located
-    requires { ⌜ Widths (o .encoding) ⌝ }
-    requires { ⌜ from ≤ length (now section) ⌝ }
-    ensures { λ r. ⌜ r ≡ versionsFrom count (now (section .entry)) o from limit ⌝ }
-{
-    let e = o.encoding;
-    let width = e.seq;
-    let size = e.version();
-    let least = o.min_seq;
-    let most = 0xFFFF_FFFF_FFFF_FFFF - least;
-    let mut pos = from;
-    let mut left = count;
-    while 0 < left {
-        if section.len() < pos + width {
-            return Located::Refused(25);
-        }
-        let stored = num::uint(section, pos, width);
-        if most < stored {
-            return Located::Refused(25);
-        }
-        let seq = least + stored;
-        if seq <= limit {
-            return version_at(section, o, pos, seq);
-        }
-        pos += size;
-        left -= 1;
-    }
-    Located::Missing
-}
-
-// Are so few bytes at two places the same? The ends of four to seven bytes overlap, and so do those of three.
-fn same_few(a: &[u8], i: usize, b: &[u8], j: usize, n: usize) -> bool
-    requires { ⌜ (i + n ≤ length (now a)) × (j + n ≤ length (now b)) × (n < 8) ⌝ }
-    ensures { λ r. ⌜ r ≡ equalBytes (take n (drop i (now (a .entry)))) (take n (drop j (now (b .entry)))) ⌝ }
-{
-    if 4 <= n {
-        if num::u32_at(a, i) != num::u32_at(b, j) {
-            return false;
-        }
-        let last = n - 4;
-        return num::u32_at(a, i + last) == num::u32_at(b, j + last);
-    }
-    if 2 <= n {
-        if num::u16_at(a, i) != num::u16_at(b, j) {
-            return false;
-        }
-        let last = n - 2;
-        return num::u16_at(a, i + last) == num::u16_at(b, j + last);
-    }
-    if n == 0 {
-        return true;
-    }
-    a[i] == b[j]
-}
-
-// Are the bytes at two places the same? Eight at a time, and the last eight once more.
-fn same_part(a: &[u8], i: usize, b: &[u8], j: usize, n: usize) -> bool
-    requires { ⌜ (i + n ≤ length (now a)) × (j + n ≤ length (now b)) ⌝ }
-    ensures { λ r. ⌜ r ≡ equalBytes (take n (drop i (now (a .entry)))) (take n (drop j (now (b .entry)))) ⌝ }
-{
-    if n < 8 {
-        return same_few(a, i, b, j, n);
-    }
-    let last = n - 8;
-    let mut k = 0;
-    while k < last {
-        if num::u64_at(a, i + k) != num::u64_at(b, j + k) {
-            return false;
-        }
-        k += 8;
-    }
-    num::u64_at(a, i + last) == num::u64_at(b, j + last)
-}
-
 // The key record whose header stands at a place: its key must be the one asked for.
 fn key_record(
     section: &[u8],
@@ -290,7 +112,7 @@ fn key_record(
 ) -> Located
     requires { ⌜ IsRecord (now section) o ⌝ }
     requires { ⌜ Narrow h ⌝ }
-    requires { ⌜ pos + keyHeaderOf (o .encoding) ≤ length (now section) ⌝ }
+    requires { ⌜ pos + keyHeaderLenOf (o .encoding) ≤ length (now section) ⌝ }
     ensures { λ r. ⌜ r ≡ keyRecordOf (now (section .entry)) o (now (key .entry)) limit pos h ⌝ }
 {
     let shared = h.shared;
@@ -302,7 +124,7 @@ fn key_record(
         return Located::Refused(25);
     }
     let anchor = o.arena + h.anchor;
-    if !same_part(key, 0, section, anchor, shared) {
+    if !num::same_part(key, 0, section, anchor, shared) {
         return Located::Missing;
     }
     let e = o.encoding;
@@ -310,10 +132,10 @@ fn key_record(
     if section.len() - suffix < suffix_len {
         return Located::Refused(25);
     }
-    if !same_part(key, shared, section, suffix, suffix_len) {
+    if !num::same_part(key, shared, section, suffix, suffix_len) {
         return Located::Missing;
     }
-    versions_from(section, o, h.versions, suffix + suffix_len, limit)
+    locator::versions_from(section, o, h.versions, suffix + suffix_len, limit)
 }
 
 // The key record at an address.
@@ -363,7 +185,7 @@ pub fn locate(section: &[u8], o: Opened, key: &[u8], limit: u64) -> Located
 {
     // The hash waits on itself; the tests of 24 go on meanwhile.
     let h = point::hash(key, o.seed);
-    if !header::is_record(section, o) {
+    if !opened::is_record(section, o) {
         return Located::Refused(24);
     }
     let at = slot_at(section, o, h);

@@ -9,3 +9,4 @@ pub mod Pieces
 pub mod Product
 pub mod Steps
 pub mod Xor
+pub mod Overlap

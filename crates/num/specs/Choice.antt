@@ -9,6 +9,11 @@ unfoldable pub if_then_else_ : {A : Type 0} → Bool → A → A → A
 if_then_else_ true a b = a
 if_then_else_ false a b = b
 
+-- a question: a test, the answer that its "no" gives, and what follows a "yes"
+infix 5 ask_otherwise_then_
+abbrev pub ask_otherwise_then_ : {A : Type 0} → Bool → A → A → A
+ask_otherwise_then_ test answer next = if test then next else answer
+
 unfoldable pub both : Bool → Bool → Bool
 both true b = b
 both false b = false
@@ -27,7 +32,7 @@ unfoldable pub eachBelow : ℕ → (ℕ → Bool) → Bool
 eachBelow zero test = true
 eachBelow (suc k) test = both (eachBelow k test) (test k)
 
--- names all definitions of this file: `unfolding choice-defs` opens them
+-- for proofs alone: `unfolding choice-defs` opens the definitions of this file
 unfoldable pub choice-defs : ℕ
 unfolding if_then_else_ both either oneOf eachBelow
 choice-defs = 0

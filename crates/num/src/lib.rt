@@ -2,9 +2,10 @@
 ghost use mathlib.Core.Path.{_≡_};
 ghost use mathlib.Core.Bool.{true};
 ghost use Prim.Native.Nat.{_+_, _≤_, _<_};
-ghost use lib.ListN.{length};
+ghost use lib.ListN.{length, take, drop};
 ghost use lib.Seq.{sets};
 ghost use Rattle.num.specs.Number.{leAt, leBytes, isWidth};
+ghost use Rattle.num.specs.Order.{equalBytes};
 ghost use Rattle.num.specs.Wrapping.{mulMod, rotl};
 
 // The product modulo 2^64, from halves of 32 bits.
@@ -89,4 +90,48 @@ pub fn put_uint(out: &mut [u8], at: usize, width: usize, value: u64)
         v = v / 256;
         i += 1;
     }
+}
+
+// Are so few bytes at two places the same? The ends of four to seven bytes overlap, and so do those of three.
+fn same_few(a: &[u8], i: usize, b: &[u8], j: usize, n: usize) -> bool
+    requires { ⌜ (i + n ≤ length (now a)) × (j + n ≤ length (now b)) × (n < 8) ⌝ }
+    ensures { λ r. ⌜ r ≡ equalBytes (take n (drop i (now (a .entry)))) (take n (drop j (now (b .entry)))) ⌝ }
+{
+    if 4 <= n {
+        if u32_at(a, i) != u32_at(b, j) {
+            return false;
+        }
+        let last = n - 4;
+        return u32_at(a, i + last) == u32_at(b, j + last);
+    }
+    if 2 <= n {
+        if u16_at(a, i) != u16_at(b, j) {
+            return false;
+        }
+        let last = n - 2;
+        return u16_at(a, i + last) == u16_at(b, j + last);
+    }
+    if n == 0 {
+        return true;
+    }
+    a[i] == b[j]
+}
+
+// Are the bytes at two places the same? Eight at a time, and the last eight once more.
+pub fn same_part(a: &[u8], i: usize, b: &[u8], j: usize, n: usize) -> bool
+    requires { ⌜ (i + n ≤ length (now a)) × (j + n ≤ length (now b)) ⌝ }
+    ensures { λ r. ⌜ r ≡ equalBytes (take n (drop i (now (a .entry)))) (take n (drop j (now (b .entry)))) ⌝ }
+{
+    if n < 8 {
+        return same_few(a, i, b, j, n);
+    }
+    let last = n - 8;
+    let mut k = 0;
+    while k < last {
+        if u64_at(a, i + k) != u64_at(b, j + k) {
+            return false;
+        }
+        k += 8;
+    }
+    u64_at(a, i + last) == u64_at(b, j + last)
 }

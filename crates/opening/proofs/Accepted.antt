@@ -9,25 +9,26 @@ use native.Mathlib.Omega.{arith}
 use lib.Dec.{eqb}
 use lib.ListN.{length}
 use borrow.Author.Tests.{eqb-true, eqb-false, eq-eqb, ne-eqb}
+use Rattle.num.specs.Answer.{given}
 use Rattle.num.proofs.Choice.{if-true, if-false}
 use Rattle.crc32.specs.Table.{isTable}
 use Rattle.sstable.specs.declared.Trailer.{Trailer}
-use Rattle.sstable.specs.declared.Trailer.the-variants.{Sound, UnknownType, ChecksumMismatch}
+use Rattle.sstable.specs.declared.Trailer.the-variants.{Intact, UnknownType, ChecksumMismatch}
 use Rattle.sstable.specs.Trailer.{trailerOf}
 use Rattle.encoding.specs.Encoding.{scanHeaderLen}
 use Rattle.header.specs.declared.Opened.{Opened}
 use Rattle.header.specs.declared.HeaderRead.the-variants.{Accepted, Refused}
 use Rattle.header.specs.Header.{headerOf, arenaEnd}
-use Rattle.header.specs.Facts.{Header, plain}
+use Rattle.header.specs.Facts.{Header, fromPlain}
 use Rattle.header.proofs.Headers.{header-facts}
 use Rattle.header.proofs.Bounds.{arena-start, scan-part, scan-end, arena-end}
-use Rattle.arena.specs.Inside.{Readable, Inside}
-use Rattle.opening.specs.declared.Carried.{Carried}
+use Rattle.arena.specs.Internal.{Readable, Inside}
+use Rattle.validate.specs.declared.Carried.{Carried}
 use Rattle.opening.specs.declared.BlocksOpened.{BlocksOpened}
 use Rattle.opening.specs.declared.BlocksOpened.the-variants as blocks-opened
-use Rattle.opening.specs.Walk.{ended, pairsFrom}
-use Rattle.opening.specs.Open.{pilotsInside, startAt, endsTogether, prefixesCounted, endFor, storeOf, contentsOf, headerFor, checkedHeaderOf}
-use Rattle.opening.specs.Scratch.{storeWith, stateIn, Ready, endedFor}
+use Rattle.opening.specs.Open.{pilotsInside, startAt, startOf, PairsEnd, pairsFrom, endsTogether, prefixesCounted, endFor, inputsOf, contentsOf, trailedHeader, checkedHeaderOf}
+use Rattle.validate.specs.Internal.{inputsWith, progressIn, Ready}
+use Rattle.opening.specs.Internal.{endedFor}
 use Rattle.opening.proofs.Pilots.{pilots-each, pilot-slot}
 
 -- the scan part's header lies in the section
@@ -41,10 +42,6 @@ scan-header-inside s o r n = go (r .scan-inside)
 module _ (s : List ℕ) (o : Opened) (e : headerOf s ≡ Accepted o) where
   facts : Header s o
   facts = header-facts s o e
-
-  -- the section has its last five bytes
-  pub accepted-long : 5 ≤ length s
-  accepted-long = omega (arith, facts .begins .long)
 
   -- the pilots lie in the section
   pub pilots-fit : 64 + 4 * o .buckets ≤ length s
@@ -77,7 +74,7 @@ module _ (s : List ℕ) (o : Opened) (e : headerOf s ≡ Accepted o) where
     start-inside : Inside s o (arenaEnd s o) (startAt o)
     unfolding startAt
     start-inside =
-        let a = arena-end s o (plain facts) in
+        let a = arena-end s o (fromPlain facts) in
         record {
           end-inside = omega (arith, a .1);
           started = omega arith;
@@ -118,34 +115,34 @@ module _ (s «data» blocks : List ℕ) (scratch : ℕ) (o : Opened) where
     contents-odd n = sym (if-true _ _ _ p ∙ if-false _ _ _ (ne-eqb _ _ n))
 
     module _ (v : length blocks % 2 ≡ 0) (end : ℕ) (q : end ≡ arenaEnd s o) (w : Carried) (z : w ≡ record { «key_len» = 0; «previous_len» = 0; cursor = startAt o })
-        (area left : List ℕ) (r : BlocksOpened) (e : endedFor (scratch / 2) left r ≡ pairsFrom (storeWith s «data» o end (scratch / 2)) blocks 0 (stateIn (scratch / 2) area w))
+        (area left : List ℕ) (r : BlocksOpened) (e : endedFor (scratch / 2) left r ≡ pairsFrom (inputsWith s «data» o end (scratch / 2)) blocks 0 (progressIn (scratch / 2) area w))
       where
-        walked : endFor (storeOf s «data» scratch o) (endedFor (scratch / 2) left r) ≡ contentsOf s «data» blocks scratch o
-        unfolding contentsOf storeOf stateIn
+        walked : endFor (inputsOf s «data» scratch o) (endedFor (scratch / 2) left r) ≡ contentsOf s «data» blocks scratch o
+        unfolding contentsOf inputsOf startOf progressIn
         walked =
-            ap (endFor (storeOf s «data» scratch o)) (e ∙ (λ i. pairsFrom (storeWith s «data» o (q i) (scratch / 2)) blocks 0 (stateIn (scratch / 2) area (z i))))
+            ap (endFor (inputsOf s «data» scratch o)) (e ∙ (λ i. pairsFrom (inputsWith s «data» o (q i) (scratch / 2)) blocks 0 (progressIn (scratch / 2) area (z i))))
             ∙ sym (if-true _ _ _ p ∙ if-true _ _ _ (eq-eqb _ _ v))
 
         -- the walk refuses
         pub contents-refused : (n : ℕ) → r ≡ blocks-opened.Refused n → Refused n ≡ contentsOf s «data» blocks scratch o
         unfolding endFor endedFor
-        contents-refused n x = sym (ap (λ (y : BlocksOpened). endFor (storeOf s «data» scratch o) (endedFor (scratch / 2) left y)) x) ∙ walked
+        contents-refused n x = sym (ap (λ (y : BlocksOpened). endFor (inputsOf s «data» scratch o) (endedFor (scratch / 2) left y)) x) ∙ walked
 
         -- the walk ends
         pub contents-ended : (at : ℕ) (after : Carried) → r ≡ blocks-opened.Ended at after
-            → endFor (storeWith s «data» o end 0) (ended at (record { key = []; previous = []; cursor = after .cursor })) ≡ contentsOf s «data» blocks scratch o
-        unfolding endFor endsTogether prefixesCounted endedFor storeOf stateIn
+            → endFor (inputsWith s «data» o end 0) (given (record { at = at; progress = record { previous = []; cursor = after .cursor } })) ≡ contentsOf s «data» blocks scratch o
+        unfolding endFor endsTogether prefixesCounted endedFor inputsOf progressIn
         contents-ended at after x =
-            ap (λ (n : ℕ). endFor (storeWith s «data» o n 0) (ended at (record { key = []; previous = []; cursor = after .cursor }))) q
-            ∙ sym (ap (λ (y : BlocksOpened). endFor (storeOf s «data» scratch o) (endedFor (scratch / 2) left y)) x)
+            ap (λ (n : ℕ). endFor (inputsWith s «data» o n 0) (given (record { at = at; progress = record { previous = []; cursor = after .cursor } }))) q
+            ∙ sym (ap (λ (y : BlocksOpened). endFor (inputsOf s «data» scratch o) (endedFor (scratch / 2) left y)) x)
             ∙ walked
 
 -- a header that passes questions 1 to 6 passes 3 to 6
 pub checked-header : (s : List ℕ) (o : Opened) → checkedHeaderOf s ≡ Accepted o → headerOf s ≡ Accepted o
-unfolding checkedHeaderOf headerFor
+unfolding checkedHeaderOf trailedHeader
 checked-header s o = go (trailerOf s)
   where
-    go : (r : Trailer) → headerFor s r ≡ Accepted o → headerOf s ≡ Accepted o
+    go : (r : Trailer) → trailedHeader s r ≡ Accepted o → headerOf s ≡ Accepted o
     go UnknownType e = absurd (let z : _≡_ {A = ℕ} 0 1 = cc in omega arith)
     go ChecksumMismatch e = absurd (let z : _≡_ {A = ℕ} 0 1 = cc in omega arith)
-    go Sound e = e
+    go Intact e = e

@@ -1,5 +1,3 @@
 pub mod Pilots
-pub mod Record
-pub mod Block
 pub mod Pairs
 pub mod Accepted

@@ -1,7 +1,7 @@
 -- The pairs of the block list one after another: questions 11 and 12.
 -- Assumes nothing.
 use mathlib.Core.Path.{_≡_, refl, sym, ap, _∙_, subst}
-use mathlib.Core.List.{List, _∷_}
+use mathlib.Core.List.{List, [], _∷_}
 use mathlib.Core.Bool.{Bool, true, false}
 use Prim.Native.Nat.{ℕ, suc, _+_, _-_, _%_, _<_, _≤_}
 use native.Mathlib.Omega.{arith}
@@ -9,22 +9,26 @@ use lib.Dec.{leb, eqb}
 use lib.ListN.{length, getD, take, drop, drop-of-length-le}
 use lib.Seq.{drop-cons}
 use borrow.Author.Tests.{leb-true, leb-false, le-leb, lt-leb, eq-eqb}
+use Rattle.num.specs.Answer.{Answer, given, refused}
 use Rattle.num.specs.Choice.{both}
 use Rattle.num.proofs.Choice.{both-true}
 use Rattle.num.proofs.Lists.{part-length}
 use Rattle.block.specs.declared.BlockMeta.{BlockMeta}
 use Rattle.block.specs.declared.Verified.{Verified}
 use Rattle.block.specs.declared.Verified.the-variants.{Sound, Unsound}
-use Rattle.block.specs.Verify.{verifyOf}
+use Rattle.block.specs.Verify.{verifyOf, verifiedNumber}
+use Rattle.block.specs.Walk.{Entry, WalkEnd, atEnd, stopped, walkAt, recordsOf}
+use Rattle.block.proofs.Walk.{records-sound}
 use Rattle.block.proofs.Sound.{sound-exactly}
-use Rattle.arena.specs.Inside.{Readable, Inside}
+use Rattle.arena.specs.Internal.{Readable, Inside}
 use Rattle.header.specs.declared.Opened.{Opened}
-use Rattle.opening.specs.declared.Carried.{Carried}
-use Rattle.opening.specs.declared.BlockOpened.{BlockOpened}
-use Rattle.opening.specs.declared.BlockOpened.the-variants.{Passed, Refused}
-use Rattle.opening.specs.Walk.{State, Answer, passed, Ended, ended, refused, Store, atStart, blockOf, blockFor, blockAsked, pairFits, pairsFrom}
-use Rattle.opening.specs.Scratch.{storeWith, stateIn, Ready, blockHeld, answerFor}
-use Rattle.opening.proofs.Block.{block-inside}
+use Rattle.validate.specs.declared.Carried.{Carried}
+use Rattle.validate.specs.declared.BlockOpened.{BlockOpened}
+use Rattle.validate.specs.declared.BlockOpened.the-variants.{Passed, Refused}
+use Rattle.validate.specs.Walk.{Inputs, Progress, entriesFrom, walkEnded, recordsAsked}
+use Rattle.opening.specs.Open.{PairsEnd, blockBytes, blockFor, blockAsked, pairFits, pairsFrom}
+use Rattle.validate.specs.Internal.{inputsWith, progressIn, Ready, blockHeld, answerFor}
+use Rattle.validate.proofs.Entries.{entries-inside}
 
 -- ---- one pair
 
@@ -48,54 +52,61 @@ part-cut l offset len = let n : offset + len - offset ≡ len = omega arith in a
 pub part-inside : (l : List ℕ) (offset len : ℕ) → offset + len ≤ length l → offset + length (take (offset + len - offset) (drop offset l)) ≤ length l
 part-inside l offset len h = omega (arith, ap length (part-cut l offset len), part-length l offset len h)
 
-module _ (t : Store) (offset len : ℕ) (st : State) (raw : List ℕ) (z : raw ≡ take len (drop offset (t .backing))) where
-  verified : (v : Verified) → verifyOf raw ≡ v → blockFor t offset raw st v ≡ blockAsked t offset len st
+module _ (t : Inputs) (offset len : ℕ) (p : Progress) (raw : List ℕ) (z : raw ≡ take len (drop offset (t .backing))) where
+  verified : (v : Verified) → verifyOf raw ≡ v → blockFor t offset p raw v ≡ blockAsked t offset len p
   unfolding blockAsked
-  verified v e = ap (blockFor t offset raw st) (sym e) ∙ ap (λ (l : List ℕ). blockFor t offset l st (verifyOf l)) z
+  verified v e = ap (blockFor t offset p raw) (sym e) ∙ ap (λ (l : List ℕ). blockFor t offset p l (verifyOf l)) z
 
   -- question 12 fails
-  pub pair-unsound : verifyOf raw ≡ Unsound → refused 12 ≡ blockAsked t offset len st
-  unfolding blockFor
+  pub pair-unsound : verifyOf raw ≡ Unsound → refused 12 ≡ blockAsked t offset len p
+  unfolding blockFor verifiedNumber
   pair-unsound e = verified Unsound e
 
   -- a sound block's records are asked
-  pub pair-sound : (m : BlockMeta) → verifyOf raw ≡ Sound m → blockOf t offset raw (m .«entries_end») st ≡ blockAsked t offset len st
+  pub pair-sound : (m : BlockMeta) → verifyOf raw ≡ Sound m → recordsAsked t offset p (walkAt raw (m .«entries_end») 0 []) ≡ blockAsked t offset len p
   unfolding blockFor
-  pair-sound m e = verified (Sound m) e
+  pair-sound m e = ap (recordsAsked t offset p) (sym (records-sound raw m e)) ∙ verified (Sound m) e
 
 -- the entries of a sound block end in it
 pub sound-inside : (raw : List ℕ) (m : BlockMeta) → verifyOf raw ≡ Sound m → m .«entries_end» ≤ length raw
 sound-inside raw m e = omega (arith, sound-exactly raw m .0 e .fitting)
 
+-- a walk whose records are passed reached the end of the entries
+ended-given : (how : WalkEnd) (a : Answer Progress) (q : Progress) → walkEnded how a ≡ given q → a ≡ given q
+unfolding walkEnded
+ended-given how (refused n) q e = absurd (let z : _≡_ {A = ℕ} 0 1 = cc in omega arith)
+ended-given atEnd (given p) q e = e
+ended-given stopped (given p) q e = absurd (let z : _≡_ {A = ℕ} 0 1 = cc in omega arith)
+
 -- the cursor behind a pair lies in the arena
-pub pair-inside : (t : Store) (offset len : ℕ) (st after : State) → Readable (t .section) (t .opened) → Inside (t .section) (t .opened) (t .end) (st .cursor)
-    → blockAsked t offset len st ≡ passed after → Inside (t .section) (t .opened) (t .end) (after .cursor)
-unfolding blockAsked blockFor blockOf atStart
-pair-inside t offset len st after r i e = go (verifyOf (take len (drop offset (t .backing)))) e
+pub pair-inside : (t : Inputs) (offset len : ℕ) (p q : Progress) → Readable (t .section) (t .opened) → Inside (t .section) (t .opened) (t .end) (p .cursor)
+    → blockAsked t offset len p ≡ given q → Inside (t .section) (t .opened) (t .end) (q .cursor)
+unfolding blockAsked blockFor recordsAsked
+pair-inside t offset len p q r i e = go (verifyOf (blockBytes (t .backing) offset len)) e
   where
-    go : (v : Verified) → blockFor t offset (take len (drop offset (t .backing))) st v ≡ passed after → Inside (t .section) (t .opened) (t .end) (after .cursor)
+    go : (v : Verified) → blockFor t offset p (blockBytes (t .backing) offset len) v ≡ given q → Inside (t .section) (t .opened) (t .end) (q .cursor)
     go Unsound x = absurd (let z : _≡_ {A = ℕ} 0 1 = cc in omega arith)
-    go (Sound m) x = block-inside t offset (take len (drop offset (t .backing))) (m .«entries_end») (suc (m .«entries_end»)) 0 (atStart st) after r i x
+    go (Sound m) x = entries-inside t r _ p q i (ended-given (recordsOf (blockBytes (t .backing) offset len) .ended) _ q x)
 
 -- what the walk counts on holds behind a pair
 module _ (tables : List (List ℕ)) (s «data» : List ℕ) (o : Opened) (end half offset len : ℕ) (scratch left : List ℕ) (w : Carried) (r : BlockOpened)
     (ready : Ready tables s o end half scratch w) (kept : length left ≡ length scratch)
-    (e : answerFor half left r ≡ blockAsked (storeWith s «data» o end half) offset len (stateIn half scratch w)) (h : blockHeld half r) where
-  pub pair-passed : (after : Carried) → r ≡ Passed after → blockAsked (storeWith s «data» o end half) offset len (stateIn half scratch w) ≡ passed (stateIn half left after)
+    (e : answerFor half left r ≡ blockAsked (inputsWith s «data» o end half) offset len (progressIn half scratch w)) (h : blockHeld half r) where
+  pub pair-passed : (after : Carried) → r ≡ Passed after → blockAsked (inputsWith s «data» o end half) offset len (progressIn half scratch w) ≡ given (progressIn half left after)
   unfolding answerFor
   pair-passed after q = sym e ∙ ap (answerFor half left) q
 
-  pub pair-refused : (n : ℕ) → r ≡ Refused n → blockAsked (storeWith s «data» o end half) offset len (stateIn half scratch w) ≡ refused n
+  pub pair-refused : (n : ℕ) → r ≡ Refused n → blockAsked (inputsWith s «data» o end half) offset len (progressIn half scratch w) ≡ refused n
   unfolding answerFor
   pair-refused n q = sym e ∙ ap (answerFor half left) q
 
   pub ready-passed : (after : Carried) → r ≡ Passed after → Ready tables s o end half left after
-  unfolding stateIn
+  unfolding progressIn
   ready-passed after q =
       record {
         table = ready .table;
         readable = ready .readable;
-        inside = pair-inside (storeWith s «data» o end half) offset len (stateIn half scratch w) (stateIn half left after) (ready .readable) (ready .inside) (pair-passed after q);
+        inside = pair-inside (inputsWith s «data» o end half) offset len (progressIn half scratch w) (progressIn half left after) (ready .readable) (ready .inside) (pair-passed after q);
         halves = omega (arith, kept, ready .halves);
         held = subst (blockHeld half) q h;
       }
@@ -112,24 +123,24 @@ drop-pair blocks i h =
     ∙ ap (λ (k : ℕ). getD blocks i 0 ∷ getD blocks (i + 1) 0 ∷ drop k blocks) m
 
 -- from a pair on the walk answers this
-pub record Pairing (t : Store) (blocks : List ℕ) (answer : Ended) (i at : ℕ) (st : State) : Type 0 where
+pub record Pairing (t : Inputs) (blocks : List ℕ) (answer : Answer PairsEnd) (i at : ℕ) (st : Progress) : Type 0 where
   pub even : i % 2 ≡ 0
   pub within : at ≤ length (t .backing)
   pub same : pairsFrom t (drop i blocks) at st ≡ answer
 
-module _ (t : Store) (blocks : List ℕ) where
-  pub pairing-start : (st : State) → Pairing t blocks (pairsFrom t blocks 0 st) 0 0 st
+module _ (t : Inputs) (blocks : List ℕ) where
+  pub pairing-start : (st : Progress) → Pairing t blocks (pairsFrom t blocks 0 st) 0 0 st
   pairing-start st = record { even = refl; within = omega arith; same = refl }
 
   -- what follows question 11, and what follows the block
-  after-block : List ℕ → ℕ → Answer → Ended
-  after-block pairs at a = elim a [ passed after ↦ pairsFrom t pairs at after | refused n ↦ refused n ]
+  after-block : List ℕ → ℕ → Answer Progress → Answer PairsEnd
+  after-block pairs at a = elim a [ given after ↦ pairsFrom t pairs at after | refused n ↦ refused n ]
 
-  tested : List ℕ → ℕ → Answer → Bool → Ended
+  tested : List ℕ → ℕ → Answer Progress → Bool → Answer PairsEnd
   tested pairs at a b = elim b [ true ↦ after-block pairs at a | false ↦ refused 11 ]
 
-  module _ (answer : Ended) (i at : ℕ) (st : State) (p : Pairing t blocks answer i at st) where
-    pub pairing-done : length blocks ≤ i → ended at st ≡ answer
+  module _ (answer : Answer PairsEnd) (i at : ℕ) (st : Progress) (p : Pairing t blocks answer i at st) where
+    pub pairing-done : length blocks ≤ i → given (record { at = at; progress = st }) ≡ answer
     unfolding pairsFrom
     pairing-done h = sym (ap (λ (l : List ℕ). pairsFrom t l at st) (drop-of-length-le blocks {i = i} h)) ∙ p .same
 
@@ -157,7 +168,7 @@ module _ (t : Store) (blocks : List ℕ) where
         pairing-refused n q = sym (ap (after-block (drop (i + 2) blocks) (getD blocks i 0 + getD blocks (i + 1) 0)) q) ∙ from-block
 
         -- a block is passed
-        pub pairing-more : (after : State) → blockAsked t (getD blocks i 0) (getD blocks (i + 1) 0) st ≡ passed after
+        pub pairing-more : (after : Progress) → blockAsked t (getD blocks i 0) (getD blocks (i + 1) 0) st ≡ given after
             → Pairing t blocks answer (i + 2) (getD blocks i 0 + getD blocks (i + 1) 0) after
         unfolding after-block pairFits
         pairing-more after q =

@@ -1,3 +1,2 @@
-pub mod Walk
 pub mod Open
-pub mod Scratch
+pub mod Internal

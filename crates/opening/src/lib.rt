@@ -3,48 +3,26 @@ ghost use mathlib.Core.Path.{_≡_};
 ghost use mathlib.Core.Bool.{true};
 ghost use mathlib.Core.List.{[]};
 ghost use Prim.Native.Nat.{_+_, _*_, _%_, _≤_};
-ghost use lib.ListN.{length, take, drop};
-ghost use lib.Seq.{sets};
+ghost use lib.ListN.{length};
 ghost use Rattle.crc32.specs.Table.{isTable};
 ghost use Rattle.header.specs.declared.HeaderRead.the-variants.{Accepted};
-ghost use Rattle.header.specs.Header.{headerOf, arenaEnd};
-ghost use Rattle.arena.specs.Inside.{Readable, Inside};
-ghost use Rattle.arena.specs.Version.{visitOf};
+ghost use Rattle.header.specs.Header.{headerOf};
+ghost use Rattle.arena.specs.Internal.{Readable};
 ghost use lib.Dec.{eqb, leb};
 ghost use Rattle.num.specs.Number.{leAt};
-ghost use Rattle.num.specs.Choice.{if_then_else_, both, either};
-ghost use Rattle.opening.specs.Walk.{more, placed, recordAsked, askedAt, blockOf, blockAsked, ended, pairsFrom};
-ghost use Rattle.opening.specs.Open.{pilotInside, pilotsInside, startAt, endFor, contentsOf, checkedHeaderOf, openOf};
-ghost use Rattle.opening.specs.Scratch.{storeWith, stateIn, Held, Ready, recordHeld, Lies, entryIn, askedFor, blockHeld, answerFor, endedFor};
+ghost use Rattle.num.specs.Choice.{both, either};
+ghost use Rattle.num.specs.Answer.{given};
+ghost use Rattle.opening.specs.Open.{pilotInside, pilotsInside, startAt, blockAsked, pairsFrom, endFor, contentsOf, checkedHeaderOf, openOf};
+ghost use Rattle.validate.specs.Internal.{inputsWith, progressIn, Ready, blockHeld, answerFor};
+ghost use Rattle.opening.specs.Internal.{endedFor};
 use arena::Cursor;
-use arena::Found;
-use arena::Visited;
-use block::Record;
-use block::Stepped;
 use block::Verified;
 use encoding::Encoding;
 use header::HeaderRead;
 use header::Opened;
 use sstable::Trailer;
-
-// What the walk carries beside the keys in the scratch: their lengths, and where it stands in the arena.
-pub struct Carried {
-    pub key_len: usize,
-    pub previous_len: usize,
-    pub cursor: Cursor,
-}
-
-// Behind one record: the place of the next, or the number of the question that failed.
-pub enum RecordOpened {
-    More(usize, Carried),
-    Refused(u64),
-}
-
-// Behind one block, or the number of the question that failed.
-pub enum BlockOpened {
-    Passed(Carried),
-    Refused(u64),
-}
+use validate::BlockOpened;
+use validate::Carried;
 
 // Where the pairs end, or the number of the question that failed.
 pub enum BlocksOpened {
@@ -79,232 +57,6 @@ fn pilots_inside(section: &[u8], o: Opened) -> bool
     true
 }
 
-// Copies the key at the scratch's front behind its half.
-fn keep_key(scratch: &mut [u8], half: usize, count: usize)
-    requires { ⌜ (count ≤ half) × (half + half ≤ length (now scratch)) ⌝ }
-    ensures { λ r. ⌜ now (scratch .exit) ≡ sets (now (scratch .entry)) half (take count (now (scratch .entry))) ⌝ }
-{
-    let mut done = 0;
-    while done < count {
-        scratch[half + done] = scratch[done];
-        done += 1;
-    }
-}
-
-// Questions 16 to 21 of a record whose key, and the last one, lie in the scratch.
-fn visit_keys(
-    table: &[[u32; 256]; 8],
-    section: &[u8],
-    o: Opened,
-    end: usize,
-    scratch: &[u8],
-    half: usize,
-    key_len: usize,
-    previous_len: usize,
-    c: Cursor,
-    value: &[u8],
-    found: Found,
-) -> Visited
-    requires { ⌜ (isTable (now table) ≡ true) × Readable (now section) o × Inside (now section) o end c ⌝ }
-    requires { ⌜ («key_len» ≤ length (now scratch)) × (half + «previous_len» ≤ length (now scratch)) ⌝ }
-    ensures { λ r. ⌜ r ≡ visitOf (now (section .entry)) o end c (take «previous_len» (drop half (now (scratch .entry)))) (record { key = take «key_len» (now (scratch .entry)); seq = found .seq; kind = found .kind; place = found .place; size = length (now (value .entry)) }) (now (value .entry)) ⌝ }
-{
-    let previous_end = half + previous_len;
-    arena::visit(
-        table,
-        section,
-        o,
-        end,
-        c,
-        &scratch[half..previous_end],
-        &scratch[0..key_len],
-        value,
-        found,
-    )
-}
-
-// Behind a record that was visited: a key's first record leaves its key as the last one.
-fn move_on(
-    scratch: &mut [u8],
-    half: usize,
-    w: Carried,
-    next: usize,
-    key_len: usize,
-    c: Cursor,
-) -> RecordOpened
-    requires { ⌜ («key_len» ≤ half) × (half + half ≤ length (now scratch)) × Held half w ⌝ }
-    ensures { λ r. ⌜ askedFor half (now (scratch .exit)) r ≡ more next (record { key = take «key_len» (now (scratch .entry)); previous = if_then_else_ (eqb (w .cursor .remaining) 0) (take «key_len» (now (scratch .entry))) (take (w .«previous_len») (drop half (now (scratch .entry)))); cursor = c }) ⌝ }
-    ensures { λ r. ⌜ recordHeld half r ⌝ }
-{
-    let before = w.cursor;
-    if before.remaining == 0 {
-        keep_key(scratch, half, key_len);
-        return RecordOpened::More(
-            next,
-            Carried {
-                key_len,
-                previous_len: key_len,
-                cursor: c,
-            },
-        );
-    }
-    RecordOpened::More(
-        next,
-        Carried {
-            key_len,
-            previous_len: w.previous_len,
-            cursor: c,
-        },
-    )
-}
-
-// Questions 14 to 21 of a record of a block that starts at an offset of the data.
-fn visit_record(
-    table: &[[u32; 256]; 8],
-    section: &[u8],
-    o: Opened,
-    end: usize,
-    data: &[u8],
-    offset: usize,
-    raw: &[u8],
-    scratch: &mut [u8],
-    half: usize,
-    w: Carried,
-    r: Record,
-) -> RecordOpened
-    requires { ⌜ Ready (now table) (now section) o end half (now scratch) w ⌝ }
-    requires { ⌜ Lies (length (now raw)) (w .«key_len») r × (offset + length (now raw) ≤ length (now «data»)) ⌝ }
-    ensures { λ q. ⌜ askedFor half (now (scratch .exit)) q ≡ recordAsked (storeWith (now (section .entry)) (now («data» .entry)) o end half) (stateIn half (now (scratch .entry)) w) (r .next) (placed offset (entryIn (now (raw .entry)) (take (w .«key_len») (now (scratch .entry))) r)) ⌝ }
-    ensures { λ q. ⌜ recordHeld half q ⌝ }
-{
-    if !sstable::mutation(r.key_len, r.size) {
-        return RecordOpened::Refused(14);
-    }
-    if half < r.key_len {
-        return RecordOpened::Refused(15);
-    }
-    let own = r.key_len - r.shared;
-    block::copy_key(raw, r.place - own, own, scratch, r.shared);
-    let place = offset + r.place;
-    let value_end = place + r.size;
-    let kind = r.kind;
-    let c = w.cursor;
-    let visited = visit_keys(
-        table,
-        section,
-        o,
-        end,
-        scratch,
-        half,
-        r.key_len,
-        w.previous_len,
-        c,
-        &data[place..value_end],
-        Found {
-            seq: r.seq,
-            kind,
-            place,
-        },
-    );
-    match visited {
-        Visited::Refused(n) => RecordOpened::Refused(n),
-        Visited::Went(d) => move_on(scratch, half, w, r.next, r.key_len, d),
-    }
-}
-
-// Questions 13 to 21 of the record at a place of a block that starts at an offset of the data.
-fn open_record(
-    table: &[[u32; 256]; 8],
-    section: &[u8],
-    o: Opened,
-    end: usize,
-    data: &[u8],
-    offset: usize,
-    raw: &[u8],
-    entries_end: usize,
-    pos: usize,
-    scratch: &mut [u8],
-    half: usize,
-    w: Carried,
-) -> RecordOpened
-    requires { ⌜ Ready (now table) (now section) o end half (now scratch) w ⌝ }
-    requires { ⌜ («entries_end» ≤ length (now raw)) × (offset + length (now raw) ≤ length (now «data»)) ⌝ }
-    ensures { λ q. ⌜ askedFor half (now (scratch .exit)) q ≡ askedAt (storeWith (now (section .entry)) (now («data» .entry)) o end half) offset (now (raw .entry)) «entries_end» pos (stateIn half (now (scratch .entry)) w) ⌝ }
-    ensures { λ q. ⌜ recordHeld half q ⌝ }
-{
-    let stepped = block::record_at(raw, entries_end, pos, w.key_len);
-    match stepped {
-        Stepped::Stopped => RecordOpened::Refused(13),
-        Stepped::Met(r) => visit_record(
-            table,
-            section,
-            o,
-            end,
-            data,
-            offset,
-            raw,
-            scratch,
-            half,
-            w,
-            r,
-        ),
-    }
-}
-
-// Questions 13 to 21 of the records of a block that starts at an offset of the data.
-fn open_block(
-    table: &[[u32; 256]; 8],
-    section: &[u8],
-    o: Opened,
-    end: usize,
-    data: &[u8],
-    offset: usize,
-    raw: &[u8],
-    entries_end: usize,
-    scratch: &mut [u8],
-    half: usize,
-    w: Carried,
-) -> BlockOpened
-    requires { ⌜ Ready (now table) (now section) o end half (now scratch) w ⌝ }
-    requires { ⌜ («entries_end» ≤ length (now raw)) × (offset + length (now raw) ≤ length (now «data»)) ⌝ }
-    ensures { λ q. ⌜ answerFor half (now (scratch .exit)) q ≡ blockOf (storeWith (now (section .entry)) (now («data» .entry)) o end half) offset (now (raw .entry)) «entries_end» (stateIn half (now (scratch .entry)) w) ⌝ }
-    ensures { λ q. ⌜ blockHeld half q ⌝ }
-{
-    let start = w.cursor;
-    let mut carried = Carried {
-        key_len: 0,
-        previous_len: w.previous_len,
-        cursor: start,
-    };
-    let mut pos = 0;
-    while pos < entries_end {
-        let opened = open_record(
-            table,
-            section,
-            o,
-            end,
-            data,
-            offset,
-            raw,
-            entries_end,
-            pos,
-            scratch,
-            half,
-            carried,
-        );
-        match opened {
-            RecordOpened::More(next, after) => {
-                pos = next;
-                carried = after;
-            }
-            RecordOpened::Refused(n) => {
-                return BlockOpened::Refused(n);
-            }
-        }
-    }
-    BlockOpened::Passed(carried)
-}
-
 // Questions 12 to 21 of a block.
 fn open_pair(
     table: &[[u32; 256]; 8],
@@ -320,7 +72,7 @@ fn open_pair(
 ) -> BlockOpened
     requires { ⌜ Ready (now table) (now section) o end half (now scratch) w ⌝ }
     requires { ⌜ offset + len ≤ length (now «data») ⌝ }
-    ensures { λ q. ⌜ answerFor half (now (scratch .exit)) q ≡ blockAsked (storeWith (now (section .entry)) (now («data» .entry)) o end half) offset len (stateIn half (now (scratch .entry)) w) ⌝ }
+    ensures { λ q. ⌜ answerFor half (now (scratch .exit)) q ≡ blockAsked (inputsWith (now (section .entry)) (now («data» .entry)) o end half) offset len (progressIn half (now (scratch .entry)) w) ⌝ }
     ensures { λ q. ⌜ blockHeld half q ⌝ }
 {
     let pair_end = offset + len;
@@ -328,7 +80,7 @@ fn open_pair(
     let verified = block::verify(table, raw);
     match verified {
         Verified::Unsound => BlockOpened::Refused(12),
-        Verified::Sound(meta) => open_block(
+        Verified::Sound(meta) => validate::open_block(
             table,
             section,
             o,
@@ -369,7 +121,7 @@ fn open_blocks(
 ) -> BlocksOpened
     requires { ⌜ Ready (now table) (now section) o end half (now scratch) w ⌝ }
     requires { ⌜ length (now blocks) % 2 ≡ 0 ⌝ }
-    ensures { λ q. ⌜ endedFor half (now (scratch .exit)) q ≡ pairsFrom (storeWith (now (section .entry)) (now («data» .entry)) o end half) (now (blocks .entry)) 0 (stateIn half (now (scratch .entry)) w) ⌝ }
+    ensures { λ q. ⌜ endedFor half (now (scratch .exit)) q ≡ pairsFrom (inputsWith (now (section .entry)) (now («data» .entry)) o end half) (now (blocks .entry)) 0 (progressIn half (now (scratch .entry)) w) ⌝ }
 {
     let mut carried = w;
     let mut at = 0;
@@ -436,7 +188,7 @@ fn prefixes_counted(section: &[u8], o: Opened, c: Cursor) -> bool
 // Questions 22 and 23.
 fn finish(section: &[u8], data: &[u8], o: Opened, end: usize, at: usize, c: Cursor) -> HeaderRead
     requires { ⌜ Readable (now section) o ⌝ }
-    ensures { λ r. ⌜ r ≡ endFor (storeWith (now (section .entry)) (now («data» .entry)) o end 0) (ended at (record { key = []; previous = []; cursor = c })) ⌝ }
+    ensures { λ r. ⌜ r ≡ endFor (inputsWith (now (section .entry)) (now («data» .entry)) o end 0) (given (record { at = at; progress = record { previous = []; cursor = c } })) ⌝ }
 {
     if !ends_together(data.len(), at, o, end, c) {
         return HeaderRead::Refused(22);
@@ -445,16 +197,6 @@ fn finish(section: &[u8], data: &[u8], o: Opened, end: usize, at: usize, c: Curs
         return HeaderRead::Refused(23);
     }
     HeaderRead::Accepted(o)
-}
-
-pub fn arena_end(section: &[u8], o: Opened) -> usize
-    requires { ⌜ 5 ≤ length (now section) ⌝ }
-    ensures { λ r. ⌜ r ≡ arenaEnd (now (section .entry)) o ⌝ }
-{
-    if o.scan == 0 {
-        return section.len() - Encoding::TRAILER;
-    }
-    o.scan
 }
 
 // The walk's start: no keys, and the arena's start.
@@ -499,7 +241,7 @@ pub fn contents(
     if blocks.len() % 2 != 0 {
         return HeaderRead::Refused(11);
     }
-    let end = arena_end(section, o);
+    let end = header::arena_end(section, o);
     let half = scratch.len() / 2;
     let walked = open_blocks(
         table,
@@ -530,7 +272,7 @@ pub fn checked_header(table: &[[u32; 256]; 8], section: &[u8]) -> HeaderRead
     match trailer {
         Trailer::UnknownType => HeaderRead::Refused(1),
         Trailer::ChecksumMismatch => HeaderRead::Refused(2),
-        Trailer::Sound => header::header(section),
+        Trailer::Intact => header::header(section),
     }
 }
 
@@ -557,5 +299,6 @@ pub fn open(section: &[u8], data: &[u8], blocks: &[u64], scratch: &mut [u8]) -> 
     ensures { λ r. ⌜ r ≡ openOf (now (section .entry)) (now («data» .entry)) (now (blocks .entry)) (length (now (scratch .entry))) ⌝ }
     ensures { λ r. ⌜ length (now (scratch .exit)) ≡ length (now (scratch .entry)) ⌝ }
 {
-    open_with(&crc32::SLICES, section, data, blocks, scratch)
+    let table = crc32::slices();
+    open_with(&table, section, data, blocks, scratch)
 }

@@ -17,18 +17,20 @@ use Rattle.header.specs.Header.{fitsPacked, packedRecord}
 use Rattle.opening.specs.Open.{contentsOf, checkedHeaderOf}
 use Rattle.packing.specs.declared.PackedRead.{PackedRead}
 use Rattle.packing.specs.declared.PackedRead.the-variants as packed-read
-use Rattle.packing.specs.Packing.{pilotPacks, pilotsPack, packedBytes, PackedOpening, refused, packedFor, packOf, packFor, openPackedOf, packedRead, packedWritten}
+use Rattle.num.specs.Answer.{Answer, refused}
+use Rattle.packing.specs.Packing.{pilotPacks, pilotsPack, PackedForm, packedFor, packOf, packFor, openPackedOf, packedRead, packedWritten}
+use Rattle.packed.specs.Packed.{packedBytes}
 
 -- a refusal leaves the output; the scratch's length goes along
-pub answer-refused : (x : PackedOpening) (out : List ℕ) (n k m : ℕ) → x ≡ refused n → k ≡ m
+pub answer-refused : (x : Answer PackedForm) (out : List ℕ) (n k m : ℕ) → x ≡ refused n → k ≡ m
     → (packed-read.Refused n ≡ packedRead x) × ((out ≡ packedWritten x out) × (k ≡ m))
 unfolding packedRead packedWritten
-answer-refused x out n k m e l = (sym (ap packedRead e), (sym (ap (λ (y : PackedOpening). packedWritten y out) e), l))
+answer-refused x out n k m e l = (sym (ap packedRead e), (sym (ap (λ (y : Answer PackedForm). packedWritten y out) e), l))
 
 -- the same opening has the same answer and output
-pub answer-same : (x y : PackedOpening) (r : PackedRead) (out after : List ℕ) (k m : ℕ) → y ≡ x → r ≡ packedRead x → after ≡ packedWritten x out → k ≡ m
+pub answer-same : (x y : Answer PackedForm) (r : PackedRead) (out after : List ℕ) (k m : ℕ) → y ≡ x → r ≡ packedRead x → after ≡ packedWritten x out → k ≡ m
     → (r ≡ packedRead y) × ((after ≡ packedWritten y out) × (k ≡ m))
-answer-same x y r out after k m e p q l = (p ∙ sym (ap packedRead e), (q ∙ sym (ap (λ (z : PackedOpening). packedWritten z out) e), l))
+answer-same x y r out after k m e p q l = (p ∙ sym (ap packedRead e), (q ∙ sym (ap (λ (z : Answer PackedForm). packedWritten z out) e), l))
 
 -- behind questions 10 to 23
 module _ (s : List ℕ) (o : Opened) (read : HeaderRead) (out : List ℕ) where

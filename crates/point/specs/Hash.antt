@@ -58,7 +58,7 @@ directSlot pilot = pilot % 2 ^ 31
 unfoldable pub slotOf : ℕ → ℕ → ℕ → ℕ
 slotOf h pilot n = if isDirect pilot then directSlot pilot else positionOf h pilot n
 
--- names all definitions of this file: `unfolding hash-defs` opens them
+-- for proofs alone: `unfolding hash-defs` opens the definitions of this file
 unfoldable pub hash-defs : ℕ
 unfolding xorShift mixOf hashChunk chunksOf tailOf hashOf fingerprintOf bucketOf positionOf isDirect directSlot slotOf
 hash-defs = 0

@@ -12,11 +12,11 @@ use Rattle.sstable.specs.Kind.{kindNumber}
 use Rattle.block.specs.declared.Record.{Record}
 use Rattle.block.specs.declared.Stepped.{Stepped}
 use Rattle.block.specs.declared.Stepped.the-variants.{Met, Stopped}
-use Rattle.block.specs.Record.{recordOf}
+use Rattle.block.specs.Record.{recordAt}
 use Rattle.num.proofs.Choice.{both-true}
 use Rattle.encoding.specs.declared.Totals.{Totals}
 use Rattle.encoding.specs.Encoding.{Bounded}
-use Rattle.probe.specs.Probe.{noSlot, recordNumber, stepProbe, recordWritten, keyWritten, bounded}
+use Rattle.probe.specs.Probe.{noSlot, recordNumber, stepProbe, probedRecordWritten, keyWritten, bounded}
 
 pub no-slots : (pilot n : ℕ) → n ≡ 0 → noSlot pilot n ≡ true
 unfolding noSlot either
@@ -34,21 +34,21 @@ pub step-outside : (raw : List ℕ) (end pos keyLen : ℕ) → length raw < end 
 unfolding stepProbe if_then_else_
 step-outside raw end pos keyLen h = rw (lt-leb end (length raw) h)
 
-pub step-inside : (raw : List ℕ) (end pos keyLen : ℕ) → end ≤ length raw → stepProbe raw end pos keyLen ≡ recordOf raw end pos keyLen
+pub step-inside : (raw : List ℕ) (end pos keyLen : ℕ) → end ≤ length raw → stepProbe raw end pos keyLen ≡ recordAt raw end pos keyLen
 unfolding stepProbe if_then_else_
 step-inside raw end pos keyLen h = rw (le-leb end (length raw) h)
 
 module _ (raw : List ℕ) (pos : ℕ) (t : Stepped) (fields scratch : List ℕ) where
   -- the three parts of the promise at a stop
   pub probe-stopped : t ≡ Stopped
-      → (13 ≡ recordNumber (length scratch) t) × (fields ≡ recordWritten (length scratch) t fields) × (scratch ≡ keyWritten raw pos t scratch)
-  unfolding recordNumber recordWritten keyWritten
+      → (13 ≡ recordNumber (length scratch) t) × (fields ≡ probedRecordWritten (length scratch) t fields) × (scratch ≡ keyWritten raw pos t scratch)
+  unfolding recordNumber probedRecordWritten keyWritten
   probe-stopped e = (rw e, rw e, rw e)
 
   -- and where the key does not fit
   pub probe-long : (r : Record) → t ≡ Met r → length scratch < r .«key_len»
-      → (15 ≡ recordNumber (length scratch) t) × (fields ≡ recordWritten (length scratch) t fields) × (scratch ≡ keyWritten raw pos t scratch)
-  unfolding recordNumber recordWritten keyWritten if_then_else_
+      → (15 ≡ recordNumber (length scratch) t) × (fields ≡ probedRecordWritten (length scratch) t fields) × (scratch ≡ keyWritten raw pos t scratch)
+  unfolding recordNumber probedRecordWritten keyWritten if_then_else_
   probe-long r e h =
       let f = lt-leb (r .«key_len») (length scratch) h in
       (rw (e, f), rw (e, f), rw (e, f))
@@ -56,9 +56,9 @@ module _ (raw : List ℕ) (pos : ℕ) (t : Stepped) (fields scratch : List ℕ) 
   -- and where a record is met
   pub probe-met : (r : Record) (k : ℕ) → t ≡ Met r → r .«key_len» ≤ length scratch → k ≡ kindNumber (r .kind)
       → (0 ≡ recordNumber (length scratch) t)
-      × (sets fields 0 (k ∷ r .seq ∷ r .«key_len» ∷ r .place ∷ r .size ∷ r .next ∷ []) ≡ recordWritten (length scratch) t fields)
+      × (sets fields 0 (k ∷ r .seq ∷ r .«key_len» ∷ r .place ∷ r .size ∷ r .next ∷ []) ≡ probedRecordWritten (length scratch) t fields)
       × (sets scratch (r .shared) (take (r .«key_len» - r .shared) (drop (pos + 21) raw)) ≡ keyWritten raw pos t scratch)
-  unfolding recordNumber recordWritten keyWritten if_then_else_
+  unfolding recordNumber probedRecordWritten keyWritten if_then_else_
   probe-met r k e h n =
       let f = le-leb (r .«key_len») (length scratch) h in
       (rw (e, f), rw (e, f, n), rw (e, f))

@@ -11,7 +11,7 @@ use Rattle.block.specs.declared.Verified.{Verified}
 use Rattle.block.specs.declared.Verified.the-variants.{Sound, Unsound}
 use Rattle.block.specs.declared.Stepped.{Stepped}
 use Rattle.block.specs.declared.Stepped.the-variants.{Met, Stopped}
-use Rattle.block.specs.Record.{recordOf}
+use Rattle.block.specs.Record.{recordAt}
 use Rattle.point.specs.Hash.{bucketOf, positionOf, slotOf}
 use Rattle.encoding.specs.declared.Totals.{Totals}
 use Rattle.encoding.specs.Encoding.{encodingOf, sectionLenOf}
@@ -41,11 +41,11 @@ recordNumber room Stopped = 13
 recordNumber room (Met r) = if leb (r .«key_len») room then 0 else 15
 
 unfoldable pub stepProbe : List ℕ → ℕ → ℕ → ℕ → Stepped
-stepProbe raw end pos keyLen = if leb end (length raw) then recordOf raw end pos keyLen else Stopped
+stepProbe raw end pos keyLen = if leb end (length raw) then recordAt raw end pos keyLen else Stopped
 
-unfoldable pub recordWritten : ℕ → Stepped → List ℕ → List ℕ
-recordWritten room Stopped before = before
-recordWritten room (Met r) before =
+unfoldable pub probedRecordWritten : ℕ → Stepped → List ℕ → List ℕ
+probedRecordWritten room Stopped before = before
+probedRecordWritten room (Met r) before =
     if leb (r .«key_len») room
     then sets before 0 (kindNumber (r .kind) ∷ r .seq ∷ r .«key_len» ∷ r .place ∷ r .size ∷ r .next ∷ [])
     else before
@@ -88,7 +88,7 @@ bounded t =
 unfoldable pub lengthProbe : Totals → ℕ → ℕ
 lengthProbe t prefix = if bounded t then sectionLenOf (encodingOf t) t prefix else 0
 
--- names all definitions of this file: `unfolding probe-defs` opens them
+-- for proofs alone: `unfolding probe-defs` opens the definitions of this file
 unfoldable pub probe-defs : ℕ
-unfolding bucketProbe noSlot positionProbe slotProbe metaWritten recordNumber stepProbe recordWritten keyWritten totalsOf bounded lengthProbe
+unfolding bucketProbe noSlot positionProbe slotProbe metaWritten recordNumber stepProbe probedRecordWritten keyWritten totalsOf bounded lengthProbe
 probe-defs = 0

@@ -15,7 +15,7 @@ ghost use Rattle.probe.specs.Probe.{
   metaWritten,
   recordNumber,
   stepProbe,
-  recordWritten,
+  probedRecordWritten,
   keyWritten,
   totalsOf,
   bounded,
@@ -152,10 +152,10 @@ pub extern "C" fn probe_section_len(totals: &[u64; 9], prefix: u64) -> u64
 pub extern "C" fn probe_trailer(section: &[u8]) -> u64
     ensures { λ r. ⌜ r ≡ trailerNumber (trailerOf (now (section .entry))) ⌝ }
 {
-    let table = &crc32::SLICES;
-    let found = sstable::verify_trailer(table, section);
+    let table = crc32::slices();
+    let found = sstable::verify_trailer(&table, section);
     match found {
-        Trailer::Sound => 0,
+        Trailer::Intact => 0,
         Trailer::UnknownType => 1,
         Trailer::ChecksumMismatch => 2,
     }
@@ -183,8 +183,8 @@ pub extern "C" fn probe_verify_lent(table: &[[u32; 256]; 8], raw: &[u8], meta: &
 pub extern "C" fn probe_verify(raw: &[u8], meta: &mut [u64; 3]) -> u64
     ensures { λ r. ⌜ (r ≡ verifiedNumber (verifyOf (now (raw .entry)))) × (now (meta .exit) ≡ metaWritten (verifyOf (now (raw .entry))) (now (meta .entry))) ⌝ }
 {
-    let table = &crc32::SLICES;
-    probe_verify_lent(table, raw, meta)
+    let table = crc32::slices();
+    probe_verify_lent(&table, raw, meta)
 }
 
 // One step of a block's walk: the previous key is the first `key_len` bytes of the scratch.
@@ -198,7 +198,7 @@ pub extern "C" fn probe_record(
     fields: &mut [u64; 6],
 ) -> u64
     ensures { λ r. ⌜ (r ≡ recordNumber (length (now (scratch .entry))) (stepProbe (now (raw .entry)) «entries_end» pos «key_len»))
-        × (now (fields .exit) ≡ recordWritten (length (now (scratch .entry))) (stepProbe (now (raw .entry)) «entries_end» pos «key_len») (now (fields .entry)))
+        × (now (fields .exit) ≡ probedRecordWritten (length (now (scratch .entry))) (stepProbe (now (raw .entry)) «entries_end» pos «key_len») (now (fields .entry)))
         × (now (scratch .exit) ≡ keyWritten (now (raw .entry)) pos (stepProbe (now (raw .entry)) «entries_end» pos «key_len») (now (scratch .entry))) ⌝ }
 {
     let end = entries_end as usize;

@@ -1,57 +1,81 @@
-// The items of a list: a length of 2 bytes, so many bytes, then numbers of 8 bytes. Outside the list all is 0 or empty.
-ghost use mathlib.Core.Path.{_≡_};
-ghost use Prim.Native.Nat.{_+_, _≤_, _<_};
-ghost use lib.ListN.{length};
+// A list's numbers and bytes. Outside the list all is 0 or empty, so that nothing is asked of a caller.
+ghost use Prim.Native.Nat.{_≤_};
 
-// Whether a case agrees, and how many bytes of the list it takes.
-pub struct Checked {
-    pub agrees: bool,
-    pub size: usize,
+pub fn at_most(n: u64, most: usize) -> usize
+    ensures { λ r. ⌜ (r ≤ n) × (r ≤ most) ⌝ }
+{
+    if n < most as u64 { n as usize } else { most }
 }
 
-pub fn part(list: &[u8], at: usize, len: usize) -> &[u8] {
-    if at <= list.len() {
-        if len <= list.len() - at {
-            return &list[at..at + len];
-        }
-    }
-    &list[0..0]
-}
-
-pub fn byte(list: &[u8], at: usize) -> u8 {
-    if at < list.len() { list[at] } else { 0 }
-}
-
-pub fn number(list: &[u8], at: usize) -> u64 {
+pub fn number(list: &[u8], at: u64) -> u64 {
+    let place = at as usize;
     if list.len() < 8 {
         return 0;
     }
-    if list.len() - 8 < at {
+    if list.len() - 8 < place {
         return 0;
     }
-    num::u64_at(list, at)
+    num::u64_at(list, place)
 }
 
-pub fn item_len(list: &[u8], at: usize) -> usize
-    ensures { λ r. ⌜ r < 65536 ⌝ }
-{
-    if list.len() < 2 {
-        return 0;
-    }
-    if list.len() - 2 < at {
-        return 0;
-    }
-    num::u16_at(list, at) as usize
+// A part of a slice, cut off at the slice's end.
+pub fn part(list: &[u8], at: u64, len: u64) -> &[u8] {
+    let from = at_most(at, list.len());
+    let size = at_most(len, list.len() - from);
+    &list[from..from + size]
 }
 
-// The place behind so many bytes, at most the list's end.
-pub fn advance(list: &[u8], at: usize, size: usize) -> usize
-    requires { ⌜ at ≤ length (now list) ⌝ }
-    ensures { λ r. ⌜ (r ≤ length (now (list .entry))) × (at < length (now (list .entry)) → 0 < size → at < r) ⌝ }
-{
-    if size <= list.len() - at {
-        at + size
-    } else {
-        list.len()
+// The place of a row's number `k`.
+fn place(row: u64, k: u32) -> u64 {
+    std::num::wrapping_add_u64(row, 8 * (k as u64))
+}
+
+pub fn field(list: &[u8], row: u64, k: u32) -> u64 {
+    number(list, place(row, k))
+}
+
+// The bytes whose place and length are a row's numbers `k` and the one behind it.
+pub fn bytes(list: &[u8], row: u64, k: u32) -> &[u8] {
+    let at = place(row, k);
+    part(list, number(list, at), number(list, place(at, 1)))
+}
+
+// Reads as many numbers as there are places for.
+pub fn read(list: &[u8], at: u64, to: &mut [u64]) {
+    let mut from = at;
+    let mut i = 0;
+    while i < to.len() {
+        to[i] = number(list, from);
+        from = place(from, 1);
+        i += 1;
     }
+}
+
+// Does the list have these numbers at a place?
+fn has(list: &[u8], at: u64, numbers: &[u64]) -> bool {
+    let mut from = at;
+    let mut i = 0;
+    while i < numbers.len() {
+        if numbers[i] != number(list, from) {
+            return false;
+        }
+        from = place(from, 1);
+        i += 1;
+    }
+    true
+}
+
+pub fn has_six(list: &[u8], at: u64, numbers: &[u64; 6]) -> bool {
+    has(list, at, numbers)
+}
+
+pub fn has_sixteen(list: &[u8], at: u64, numbers: &[u64; 16]) -> bool {
+    has(list, at, numbers)
+}
+
+// Copies bytes to a place, as many as there is room for.
+pub fn put(from: &[u8], to: &mut [u8], at: u64) {
+    let start = at_most(at, to.len());
+    let size = at_most(from.len() as u64, to.len() - start);
+    bytes::copy(&from[0..size], &mut to[start..start + size]);
 }

@@ -14,7 +14,7 @@ maxValueBytes = 16777216
 unfoldable pub withinLimits : ℕ → ℕ → Bool
 withinLimits keyLength valueLength = both (leb keyLength maxKeyBytes) (leb valueLength maxValueBytes)
 
--- names all definitions of this file: `unfolding limit-defs` opens them
+-- for proofs alone: `unfolding limit-defs` opens the definitions of this file
 unfoldable pub limit-defs : ℕ
 unfolding maxKeyBytes maxValueBytes withinLimits
 limit-defs = 0

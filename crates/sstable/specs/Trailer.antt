@@ -1,15 +1,15 @@
--- The trailer of a section or a block: a type byte and the CRC-32 of all before the CRC (questions 1 and 2).
+-- The trailer of a section: a type byte and the CRC-32 of all before the CRC (questions 1 and 2).
 use mathlib.Core.Path.{_≡_}
 use Prim.Native.Nat.{ℕ, _-_, _≤_}
 use mathlib.Core.List.{List}
 use mathlib.Core.Bool.{Bool}
 use lib.Dec.{leb, eqb}
 use lib.ListN.{length, getD, take}
-use Rattle.num.specs.Choice.{if_then_else_, both}
+use Rattle.num.specs.Choice.{ask_otherwise_then_, both}
 use Rattle.num.specs.Number.{leAt}
 use Rattle.crc32.specs.V42.{crcOf}
 use Rattle.sstable.specs.declared.Trailer.{Trailer}
-use Rattle.sstable.specs.declared.Trailer.the-variants.{Sound, UnknownType, ChecksumMismatch}
+use Rattle.sstable.specs.declared.Trailer.the-variants.{Intact, UnknownType, ChecksumMismatch}
 
 -- question 1: at least 6 bytes, and is the fifth byte from the end zero?
 unfoldable pub plainType : List ℕ → Bool
@@ -19,9 +19,12 @@ plainType s = both (leb 6 (length s)) (eqb (getD s (length s - 5) 0) 0)
 unfoldable pub sealed : List ℕ → Bool
 sealed s = eqb (leAt s (length s - 4) 4) (crcOf (take (length s - 4) s))
 
--- the first question that is answered by no
+-- the first question that is answered with no
 unfoldable pub trailerOf : List ℕ → Trailer
-trailerOf s = if plainType s then (if sealed s then Sound else ChecksumMismatch) else UnknownType
+trailerOf s =
+    ask plainType s otherwise UnknownType then
+    ask sealed s otherwise ChecksumMismatch then
+    Intact
 
 -- questions 1 and 2 in plain terms
 pub record SoundTrailer (s : List ℕ) : Type 0 where
@@ -31,11 +34,11 @@ pub record SoundTrailer (s : List ℕ) : Type 0 where
 
 -- the number of the question that a trailer fails, 0 if it fails none
 unfoldable pub trailerNumber : Trailer → ℕ
-trailerNumber Sound = 0
+trailerNumber Intact = 0
 trailerNumber UnknownType = 1
 trailerNumber ChecksumMismatch = 2
 
--- names all definitions of this file: `unfolding trailer-defs` opens them
+-- for proofs alone: `unfolding trailer-defs` opens the definitions of this file
 unfoldable pub trailer-defs : ℕ
 unfolding plainType sealed trailerOf trailerNumber
 trailer-defs = 0

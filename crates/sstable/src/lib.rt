@@ -127,7 +127,7 @@ pub fn keys_equal(a: &[u8], b: &[u8]) -> bool
 
 // What the last five bytes of a section or a block say.
 pub enum Trailer {
-    Sound,
+    Intact,
     UnknownType,
     ChecksumMismatch,
 }
@@ -148,5 +148,5 @@ pub fn verify_trailer(table: &[[u32; 256]; 8], raw: &[u8]) -> Trailer
     if crc32::crc32_with(table, &raw[..crc_at]) != num::u32_at(raw, crc_at) {
         return Trailer::ChecksumMismatch;
     }
-    Trailer::Sound
+    Trailer::Intact
 }

@@ -5,7 +5,7 @@ use native.Mathlib.Nat.{mul-le-mul}
 use borrow.Author.Tests.{not-true, not-false}
 use Rattle.num.proofs.Choice.{never-true, false-true, both-true}
 use Rattle.sstable.specs.Limits.{maxKeyBytes}
-use Rattle.encoding.specs.Encoding.{versionOf}
+use Rattle.encoding.specs.Encoding.{versionLenOf}
 use Rattle.arena.specs.Key.{keyFits}
 use Rattle.arena.proofs.Questions.{fitting, fits-last}
 use Rattle.arena.proofs.Reading.{version-le}
@@ -67,7 +67,7 @@ mul-if6 c =
     let args = c .before .before .before .before .before .before .before .before .before .before .before .before .before .before .before .before .before .before .args in
     let pre = c .before .before .before .before .before .before .before .before .before .before .before .before .before .before .before .before .before .before .pre in
     let v : args .h .versions ≤ 4294967296 = omega (arith, pre .1 .0 .versions) in
-    let p : args .h .versions * versionOf (args .o .encoding) ≤ 4294967296 * 24 = mul-le-mul v (version-le _ (pre .0)) in
+    let p : args .h .versions * versionLenOf (args .o .encoding) ≤ 4294967296 * 24 = mul-le-mul v (version-le _ (pre .0)) in
     let e = ap (λ (n : ℕ). args .h .versions * n) (c .before .version .ensures) in
     omega arith
 

@@ -1,54 +1,54 @@
 use native.Mathlib.Omega.{arith}
-use Rattle.encoding.specs.Encoding.{keyHeaderOf}
+use Rattle.encoding.specs.Encoding.{keyHeaderLenOf}
 use Rattle.arena.specs.Key.{keyHeaderAt}
 use Rattle.arena.proofs.Reading.{widths-read}
 use Rattle.arena.proofs.key_header_at.Statement.{statement}
 use Rattle.arena.proofs.key_header_at.Tie as tie
 
 add-lengths : tie.Need-add-lengths
-unfolding keyHeaderOf
+unfolding keyHeaderLenOf
 add-lengths c =
     let pre = c .before .before .pre in
     omega (arith, pre .1)
 
 uint-requires : tie.Need-uint-requires
-unfolding keyHeaderOf
+unfolding keyHeaderLenOf
 uint-requires c κs =
     let pre = c .before .before .pre in
     (omega (arith, pre .1), widths-read _ (pre .0) .0)
 
 uint-requires-2 : tie.Need-uint-requires-2
-unfolding keyHeaderOf
+unfolding keyHeaderLenOf
 uint-requires-2 c κs =
     let pre = c .before .before .before .pre in
     (omega (arith, pre .1), widths-read _ (pre .0) .1)
 
 add-uint : tie.Need-add-uint
-unfolding keyHeaderOf
+unfolding keyHeaderLenOf
 add-uint c =
     let pre = c .before .before .before .before .before .pre in
     omega (arith, pre .1)
 
 uint-requires-3 : tie.Need-uint-requires-3
-unfolding keyHeaderOf
+unfolding keyHeaderLenOf
 uint-requires-3 c κs =
     let pre = c .before .before .before .before .before .pre in
     (omega (arith, pre .1), widths-read _ (pre .0) .1)
 
 mul-uint : tie.Need-mul-uint
-unfolding keyHeaderOf
+unfolding keyHeaderLenOf
 mul-uint c =
     let pre = c .before .before .before .before .before .before .before .pre in
     omega (arith, pre .1)
 
 add-uint-2 : tie.Need-add-uint-2
-unfolding keyHeaderOf
+unfolding keyHeaderLenOf
 add-uint-2 c =
     let pre = c .before .before .before .before .before .before .before .pre in
     omega (arith, pre .1)
 
 uint-requires-4 : tie.Need-uint-requires-4
-unfolding keyHeaderOf
+unfolding keyHeaderLenOf
 uint-requires-4 c κs =
     let pre = c .before .before .before .before .before .before .before .pre in
     (omega (arith, pre .1), widths-read _ (pre .0) .2)

@@ -3,8 +3,8 @@ use native.Mathlib.Omega.{arith}
 use borrow.Author.Tests.{not-true, not-false}
 use Rattle.num.specs.Choice.{if_then_else_}
 use Rattle.arena.specs.Key.{keyFits, slotNames, keyFor, keyOf}
-use Rattle.arena.specs.Inside.{Narrow}
-use Rattle.arena.proofs.Visiting.{inside-asked}
+use Rattle.arena.specs.Internal.{Narrow}
+use Rattle.arena.proofs.Entering.{inside-asked}
 use Rattle.arena.proofs.Reading.{key-header-narrow}
 use Rattle.arena.proofs.Questions.{fitting}
 use borrow.Author.Needs.{needs}

@@ -2,7 +2,8 @@ use mathlib.Core.Path.{sym, _∙_}
 use Prim.Native.Nat.{_+_}
 use native.Mathlib.Omega.{arith}
 use borrow.Author.Tests.{not-true, not-false, le-leb, lt-leb}
-use Rattle.block.specs.Header.{headerFor, entryIf}
+use Rattle.num.specs.Choice.{if_then_else_}
+use Rattle.block.specs.EntryHeader.{entryHeaderFor}
 use borrow.Author.Needs.{needs}
 use Rattle.block.proofs.entry_inside.Statement.{statement}
 use Rattle.block.proofs.entry_inside.Tie as tie
@@ -11,7 +12,7 @@ value-allowed-requires : tie.Need-value-allowed-requires
 value-allowed-requires c κs = search needs
 
 returns : tie.Need-returns
-unfolding headerFor entryIf
+unfolding entryHeaderFor if_then_else_
 returns c = rw (sym (c .before .value-allowed .ensures) ∙ not-true _ (c .if1 .taken))
 
 add-room : tie.Need-add-room
@@ -21,19 +22,19 @@ sub-room : tie.Need-sub-room
 sub-room c = search needs
 
 returns-2 : tie.Need-returns-2
-unfolding headerFor entryIf
+unfolding entryHeaderFor if_then_else_
 returns-2 c =
     let a = c .before .before .before .before .args in
     rw (sym (c .before .before .before .value-allowed .ensures) ∙ not-false _ (c .before .before .if1 .left), lt-leb (a .pos + 21 + a .h .«non_shared» + a .h .«value_len») (a .entries-end) (omega arith))
 
 returns-3 : tie.Need-returns-3
-unfolding headerFor entryIf
+unfolding entryHeaderFor if_then_else_
 returns-3 c =
     let a = c .before .before .before .before .before .before .before .args in
     rw (sym (c .before .before .before .before .before .before .value-allowed .ensures) ∙ not-false _ (c .before .before .before .before .before .if1 .left), lt-leb (a .pos + 21 + a .h .«non_shared» + a .h .«value_len») (a .entries-end) (omega arith))
 
 returns-4 : tie.Need-returns-4
-unfolding headerFor entryIf
+unfolding entryHeaderFor if_then_else_
 returns-4 c =
     let a = c .before .before .before .before .before .before .before .args in
     rw (sym (c .before .before .before .before .before .before .value-allowed .ensures) ∙ not-false _ (c .before .before .before .before .before .if1 .left), le-leb (a .pos + 21 + a .h .«non_shared» + a .h .«value_len») (a .entries-end) (omega arith))

@@ -1,4 +1,4 @@
-use Rattle.block.specs.Header.{numbersAt}
+use Rattle.block.specs.EntryHeader.{numbersAt}
 use borrow.Author.Needs.{needs}
 use Rattle.block.proofs.entry_numbers.Statement.{statement}
 use Rattle.block.proofs.entry_numbers.Tie as tie

@@ -2,19 +2,20 @@ use mathlib.Core.Path.{ap, _∙_}
 use Prim.Native.Nat.{_+_}
 use native.Mathlib.Omega.{arith}
 use borrow.Author.Tests.{le-leb, lt-leb}
-use Rattle.block.specs.Header.{headerOf, headerKind, headerFor, entryIf}
+use Rattle.num.specs.Choice.{if_then_else_}
+use Rattle.block.specs.EntryHeader.{entryHeaderOf, entryHeaderKind, entryHeaderFor}
 use borrow.Author.Needs.{needs}
 use Rattle.block.proofs.header_at.Statement.{statement}
 use Rattle.block.proofs.header_at.Tie as tie
 
 returns : tie.Need-returns
-unfolding headerOf headerKind entryIf
+unfolding entryHeaderOf entryHeaderKind if_then_else_
 returns c =
     let a = c .before .before .args in
     rw (lt-leb (a .pos + 21) (a .entries-end) (omega arith))
 
 returns-2 : tie.Need-returns-2
-unfolding headerOf headerKind entryIf
+unfolding entryHeaderOf entryHeaderKind if_then_else_
 returns-2 c =
     let a = c .before .before .before .args in
     rw (lt-leb (a .pos + 21) (a .entries-end) (omega arith))
@@ -38,14 +39,14 @@ enum-told : tie.Need-enum-told
 enum-told c = search needs
 
 returns-3 : tie.Need-returns-3
-unfolding headerOf headerKind entryIf
+unfolding entryHeaderOf entryHeaderKind if_then_else_
 returns-3 c =
     let a = c .before .before .before .before .before .before .before .before .before .before .args in
     rw (le-leb (a .pos + 21) (a .entries-end) (omega arith), ← c .before .before .before .before .before .from-u8 .ensures, c .before .before .before .read .given .1)
-    (c .entry-inside .ensures ∙ ap (headerFor _ _) (c .before .entry-numbers .ensures))
+    (c .entry-inside .ensures ∙ ap (entryHeaderFor _ _) (c .before .entry-numbers .ensures))
 
 returns-4 : tie.Need-returns-4
-unfolding headerOf headerKind entryIf
+unfolding entryHeaderOf entryHeaderKind if_then_else_
 returns-4 c =
     let a = c .before .before .before .before .before .before .before .args in
     rw (le-leb (a .pos + 21) (a .entries-end) (omega arith), ← c .before .before .from-u8 .ensures, c .enum-told .given .1)

@@ -2,7 +2,7 @@ use mathlib.Core.Path.{sym, _∙_}
 use native.Mathlib.Omega.{arith}
 use borrow.Author.Tests.{le-leb, lt-leb}
 use Rattle.num.specs.Choice.{if_then_else_}
-use Rattle.block.specs.Record.{recordOf, recordFor, recordFrom}
+use Rattle.block.specs.Record.{recordAt, recordAtFor, recordFrom}
 use Rattle.block.proofs.Header.{entry-exactly, shared-narrow}
 use borrow.Author.Needs.{needs}
 use Rattle.block.proofs.record_at.Statement.{statement}
@@ -39,19 +39,19 @@ enum-told : tie.Need-enum-told
 enum-told c = search needs
 
 returns : tie.Need-returns
-unfolding recordOf recordFor recordFrom if_then_else_
+unfolding recordAt recordAtFor recordFrom if_then_else_
 returns c =
     let e = sym (c .before .before .before .before .before .before .before .before .header-at .ensures) ∙ c .before .before .before .before .before .before .read .given .1 in
     rw (e, le-leb _ _ (c .before .before .before .if1 .taken))
 
 returns-2 : tie.Need-returns-2
-unfolding recordOf recordFor recordFrom if_then_else_
+unfolding recordAt recordAtFor recordFrom if_then_else_
 returns-2 c =
     let e = sym (c .before .before .before .before .before .header-at .ensures) ∙ c .before .before .before .read .given .1 in
     rw (e, lt-leb _ _ (c .if1 .left))
 
 returns-3 : tie.Need-returns-3
-unfolding recordOf recordFor recordFrom if_then_else_
+unfolding recordAt recordAtFor recordFrom if_then_else_
 returns-3 c = rw (sym (c .before .before .header-at .ensures) ∙ c .enum-told .given .1)
 
 pub record-at-spec : {M : Type 1} → statement M

@@ -1,4 +1,4 @@
-use Rattle.block.specs.Header.{valueAllowed}
+use Rattle.block.specs.EntryHeader.{valueAllowed}
 use borrow.Author.Needs.{needs}
 use Rattle.block.proofs.value_allowed.Statement.{statement}
 use Rattle.block.proofs.value_allowed.Tie as tie

@@ -4,13 +4,14 @@ use native.Mathlib.Nat.{sub-zero}
 use lib.ListN.{length, take}
 use Rattle.crc32.specs.V42.{crcOf}
 use borrow.Author.Tests.{le-leb, lt-leb, eq-eqb, ne-eqb}
-use Rattle.block.specs.Verify.{verifyOf, soundIf}
+use Rattle.num.specs.Choice.{if_then_else_}
+use Rattle.block.specs.Verify.{verifyOf}
 use borrow.Author.Needs.{needs}
 use Rattle.block.proofs.verify.Statement.{statement}
 use Rattle.block.proofs.verify.Tie as tie
 
 returns : tie.Need-returns
-unfolding verifyOf soundIf
+unfolding verifyOf if_then_else_
 returns c = rw (lt-leb 34 _ (c .if1 .taken))
 
 sub-if2 : tie.Need-sub-if2
@@ -20,7 +21,7 @@ shared-slice-read-if2 : tie.Need-shared-slice-read-if2
 shared-slice-read-if2 c = search needs
 
 returns-2 : tie.Need-returns-2
-unfolding verifyOf soundIf
+unfolding verifyOf if_then_else_
 returns-2 c = rw (le-leb 34 _ (c .before .before .if1 .left), ne-eqb _ _ (c .if2 .taken))
 
 sub-u32-at : tie.Need-sub-u32-at
@@ -45,7 +46,7 @@ crc32-with-requires : tie.Need-crc32-with-requires
 crc32-with-requires c κs = search needs
 
 returns-3 : tie.Need-returns-3
-unfolding verifyOf soundIf
+unfolding verifyOf if_then_else_
 returns-3 c =
     let raw = c .before .before .before .before .before .before .before .before .args .raw .now in
     let e = c .before .crc32-with .ensures ∙ ap (λ (k : ℕ). crcOf (take k raw)) (sub-zero (length raw - 4)) in
@@ -55,7 +56,7 @@ verify-restarts-requires : tie.Need-verify-restarts-requires
 verify-restarts-requires c κs = search needs
 
 returns-4 : tie.Need-returns-4
-unfolding verifyOf soundIf
+unfolding verifyOf if_then_else_
 returns-4 c =
     let raw = c .before .before .before .before .before .before .before .before .before .args .raw .now in
     let e = c .before .before .crc32-with .ensures ∙ ap (λ (k : ℕ). crcOf (take k raw)) (sub-zero (length raw - 4)) in

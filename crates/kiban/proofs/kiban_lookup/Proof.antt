@@ -1,7 +1,7 @@
 use mathlib.Core.Path.{sym, _∙_}
 use Rattle.num.specs.Choice.{if_then_else_}
-use Rattle.lookup.specs.Lookup.{locatedNumber}
-use Rattle.kiban.specs.Answer.{lookupOf, answerWritten}
+use Rattle.locator.specs.Locator.{locatedNumber}
+use Rattle.kiban.specs.Written.{lookupOf, answerWritten}
 use Rattle.kiban.proofs.Numbers.{looked-up}
 use borrow.Author.Needs.{needs}
 use Rattle.kiban.proofs.kiban_lookup.Statement.{statement}

@@ -1,6 +1,6 @@
 use mathlib.Core.Path.{sym, _∙_}
 use Rattle.header.specs.Header.{headerNumber}
-use Rattle.kiban.specs.Record.{recordWritten}
+use Rattle.kiban.specs.Written.{recordWritten}
 use borrow.Author.Needs.{needs}
 use Rattle.kiban.proofs.kiban_open.Statement.{statement}
 use Rattle.kiban.proofs.kiban_open.Tie as tie

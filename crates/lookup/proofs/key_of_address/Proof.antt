@@ -3,7 +3,7 @@ use Prim.Native.Nat.{_+_, _-_}
 use native.Mathlib.Omega.{arith}
 use lib.ListN.{length}
 use borrow.Author.Tests.{leb-true}
-use Rattle.arena.specs.Inside.{Narrow}
+use Rattle.arena.specs.Internal.{Narrow}
 use Rattle.arena.proofs.Reading.{key-header-narrow}
 use Rattle.lookup.proofs.Tests.{said-yes, said-no}
 use Rattle.lookup.proofs.Places.{record-widths, arena-inside}

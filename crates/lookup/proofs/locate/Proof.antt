@@ -1,7 +1,7 @@
 use mathlib.Core.Path.{sym, ap, _∙_, subst⁻¹}
 use Prim.Native.Nat.{ℕ, _^_, _<_}
 use Rattle.num.proofs.Choice.{if-true, if-false}
-use Rattle.header.proofs.Headers.{record-facts}
+use Rattle.opened.proofs.Records.{record-facts}
 use Rattle.lookup.specs.Lookup.{slotRead, hashRead, locateOf}
 use Rattle.lookup.proofs.Tests.{said-yes, said-no}
 use Rattle.lookup.proofs.Places.{slot-at-lt, hash-read}

@@ -1,7 +1,8 @@
 use mathlib.Core.Path.{refl, sym, _∙_}
 use lib.ListN.{length}
 use borrow.Author.Tests.{not-true, not-false}
-use Rattle.opening.proofs.Accepted.{accepted-long, pilots-fit, accepted-readable, start-ready, contents-10, contents-odd, contents-refused, contents-ended}
+use Rattle.opening.proofs.Accepted.{pilots-fit, accepted-readable, start-ready, contents-10, contents-odd, contents-refused, contents-ended}
+use Rattle.header.proofs.Headers.{accepted-long}
 use borrow.Author.Needs.{needs}
 use Rattle.opening.proofs.contents.Statement.{statement}
 use Rattle.opening.proofs.contents.Tie as tie

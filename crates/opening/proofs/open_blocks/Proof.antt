@@ -4,8 +4,9 @@ use native.Mathlib.Omega.{arith}
 use lib.ListN.{length, getD}
 use borrow.Author.Needs.{needs}
 use borrow.Author.Tests.{not-true, not-false}
-use Rattle.opening.specs.Walk.{pairFits, pairsFrom}
-use Rattle.opening.specs.Scratch.{storeWith, stateIn, Ready, endedFor}
+use Rattle.opening.specs.Open.{pairFits, pairsFrom}
+use Rattle.validate.specs.Internal.{inputsWith, progressIn, Ready}
+use Rattle.opening.specs.Internal.{endedFor}
 use Rattle.opening.proofs.Pairs.{fits-inside, pair-passed, pair-refused, ready-passed, Pairing, pairing-start, pairing-done, pairing-11, pairing-refused, pairing-more}
 use Rattle.opening.proofs.open_blocks.Statement.{statement}
 use Rattle.opening.proofs.open_blocks.Tie as tie
@@ -14,7 +15,7 @@ abbrev Inv-loop : tie.InvT-loop
 Inv-loop table section o end «data» blocks scratch₀ half carried₀ at₀ i₀ scratch carried at i =
     Ready table section o end half scratch carried
     × (length scratch ≡ length scratch₀)
-    × Pairing (storeWith section «data» o end half) blocks (pairsFrom (storeWith section «data» o end half) blocks 0 (stateIn half scratch₀ carried₀)) i at (stateIn half scratch carried)
+    × Pairing (inputsWith section «data» o end half) blocks (pairsFrom (inputsWith section «data» o end half) blocks 0 (progressIn half scratch₀ carried₀)) i at (progressIn half scratch carried)
 
 abbrev μ-loop : tie.MeasureT-loop
 μ-loop table section o end «data» blocks scratch₀ half carried₀ at₀ i₀ scratch carried at i = length blocks - i
@@ -22,7 +23,7 @@ abbrev μ-loop : tie.MeasureT-loop
 loop-holds : tie.Need-loop-holds Inv-loop μ-loop
 loop-holds c =
     let a = c .before .before .before .before .args in
-    (c .before .before .before .before .pre .0, refl, pairing-start (storeWith (a .section .now) (a .«data» .now) (a .o) (a .end) (a .half)) (a .blocks .now) (stateIn (a .half) (a .scratch .now) (a .w)))
+    (c .before .before .before .before .pre .0, refl, pairing-start (inputsWith (a .section .now) (a .«data» .now) (a .o) (a .end) (a .half)) (a .blocks .now) (progressIn (a .half) (a .scratch .now) (a .w)))
 
 mul-offset : tie.Need-mul-offset Inv-loop μ-loop
 mul-offset c = omega (arith, c .before .loop .inv .2 .even, c .before .before .before .before .before .before .pre .1, c .before .before .before .before .before .before .good .1 .1 .1 .1 .1 .0)
@@ -51,7 +52,7 @@ returns c =
     let a = c .before .before .before .before .before .before .before .before .before .before .args in
     let l = c .before .before .before .before .before .loop in
     let n : l .i + 1 < length (a .blocks .now) = omega (arith, l .inv .2 .even, c .before .before .before .before .before .before .before .before .before .before .pre .1, c .before .before .before .before .loop-test .taken) in
-    pairing-11 (storeWith (a .section .now) (a .«data» .now) (a .o) (a .end) (a .half)) (a .blocks .now) _ (l .i) (l .at) (stateIn (a .half) (l .scratch) (l .carried)) (l .inv .2) n (sym (c .before .pair-fits .ensures) ∙ not-true _ (c .if1 .taken))
+    pairing-11 (inputsWith (a .section .now) (a .«data» .now) (a .o) (a .end) (a .half)) (a .blocks .now) _ (l .i) (l .at) (progressIn (a .half) (l .scratch) (l .carried)) (l .inv .2) n (sym (c .before .pair-fits .ensures) ∙ not-true _ (c .if1 .taken))
 
 open-pair-requires : tie.Need-open-pair-requires Inv-loop μ-loop
 open-pair-requires c κs = (c .before .before .before .before .before .before .loop .inv .0, fits-inside _ (c .before .before .before .before .before .before .loop .at) _ _ (sym (c .before .before .pair-fits .ensures) ∙ not-false _ (c .before .if1 .left)))
@@ -79,7 +80,7 @@ loop-again c =
     let f = sym (c .before .before .before .before .before .before .before .before .pair-fits .ensures) ∙ not-false _ (c .before .before .before .before .before .before .before .if1 .left) in (
       ready-passed (a .table .now) (a .section .now) (a .«data» .now) (a .o) (a .end) (a .half) (getD (a .blocks .now) (l .i) 0) (getD (a .blocks .now) (l .i + 1) 0) (l .scratch) _ (l .carried) _ (l .inv .0) (k .kept .1 .1 .1 .1 .1 .1 .1 .0) (k .ensures .0) (k .ensures .1) _ g,
       k .kept .1 .1 .1 .1 .1 .1 .1 .0 ∙ l .inv .1,
-      pairing-more (storeWith (a .section .now) (a .«data» .now) (a .o) (a .end) (a .half)) (a .blocks .now) _ (l .i) (l .at) (stateIn (a .half) (l .scratch) (l .carried)) (l .inv .2) n f _ (pair-passed (a .table .now) (a .section .now) (a .«data» .now) (a .o) (a .end) (a .half) (getD (a .blocks .now) (l .i) 0) (getD (a .blocks .now) (l .i + 1) 0) (l .scratch) _ (l .carried) _ (l .inv .0) (k .kept .1 .1 .1 .1 .1 .1 .1 .0) (k .ensures .0) (k .ensures .1) _ g),
+      pairing-more (inputsWith (a .section .now) (a .«data» .now) (a .o) (a .end) (a .half)) (a .blocks .now) _ (l .i) (l .at) (progressIn (a .half) (l .scratch) (l .carried)) (l .inv .2) n f _ (pair-passed (a .table .now) (a .section .now) (a .«data» .now) (a .o) (a .end) (a .half) (getD (a .blocks .now) (l .i) 0) (getD (a .blocks .now) (l .i + 1) 0) (l .scratch) _ (l .carried) _ (l .inv .0) (k .kept .1 .1 .1 .1 .1 .1 .1 .0) (k .ensures .0) (k .ensures .1) _ g),
     )
 
 enum-known-opened-2 : tie.Need-enum-known-opened-2 Inv-loop μ-loop
@@ -97,7 +98,7 @@ returns-2 c =
     let k = c .before .before .before .before .before .open-pair in
     let g = c .before .opened2 .given .1 in
     let f = sym (c .before .before .before .before .before .before .before .before .pair-fits .ensures) ∙ not-false _ (c .before .before .before .before .before .before .before .if1 .left) in
-    pairing-refused (storeWith (a .section .now) (a .«data» .now) (a .o) (a .end) (a .half)) (a .blocks .now) _ (l .i) (l .at) (stateIn (a .half) (l .scratch) (l .carried)) (l .inv .2) n f _ (pair-refused (a .table .now) (a .section .now) (a .«data» .now) (a .o) (a .end) (a .half) (getD (a .blocks .now) (l .i) 0) (getD (a .blocks .now) (l .i + 1) 0) (l .scratch) _ (l .carried) _ (l .inv .0) (k .kept .1 .1 .1 .1 .1 .1 .1 .0) (k .ensures .0) (k .ensures .1) _ g)
+    pairing-refused (inputsWith (a .section .now) (a .«data» .now) (a .o) (a .end) (a .half)) (a .blocks .now) _ (l .i) (l .at) (progressIn (a .half) (l .scratch) (l .carried)) (l .inv .2) n f _ (pair-refused (a .table .now) (a .section .now) (a .«data» .now) (a .o) (a .end) (a .half) (getD (a .blocks .now) (l .i) 0) (getD (a .blocks .now) (l .i + 1) 0) (l .scratch) _ (l .carried) _ (l .inv .0) (k .kept .1 .1 .1 .1 .1 .1 .1 .0) (k .ensures .0) (k .ensures .1) _ g)
 
 same-length-3 : tie.Need-same-length-3 Inv-loop μ-loop
 same-length-3 c = search needs
@@ -107,7 +108,7 @@ unfolding endedFor
 returns-3 c =
     let a = c .before .before .before .before .before .before .args in
     let l = c .before .loop in
-    pairing-done (storeWith (a .section .now) (a .«data» .now) (a .o) (a .end) (a .half)) (a .blocks .now) _ (l .i) (l .at) (stateIn (a .half) (l .scratch) (l .carried)) (l .inv .2) (c .loop-test .left)
+    pairing-done (inputsWith (a .section .now) (a .«data» .now) (a .o) (a .end) (a .half)) (a .blocks .now) _ (l .i) (l .at) (progressIn (a .half) (l .scratch) (l .carried)) (l .inv .2) (c .loop-test .left)
 
 pub open-blocks-spec : {M : Type 1} → statement M
 open-blocks-spec =

@@ -1,5 +1,5 @@
 use mathlib.Core.Path.{sym, _∙_}
-use Rattle.opening.specs.Scratch.{storeWith, stateIn, answerFor}
+use Rattle.validate.specs.Internal.{inputsWith, progressIn, answerFor}
 use Rattle.opening.proofs.Pairs.{part-cut, part-inside, sound-inside, pair-unsound, pair-sound}
 use borrow.Author.Needs.{needs}
 use Rattle.opening.proofs.open_pair.Statement.{statement}
@@ -37,7 +37,7 @@ unfolding answerFor
 returns c =
     let a = c .before .before .before .before .before .before .before .args in
     let p = c .before .before .before .before .before .before .before .pre in
-    (pair-unsound (storeWith (a .section .now) (a .«data» .now) (a .o) (a .end) (a .half)) (a .offset) (a .len) (stateIn (a .half) (a .scratch .now) (a .w)) _ (part-cut (a .«data» .now) (a .offset) (a .len)) (sym (c .before .before .verify .ensures) ∙ c .enum-told .given .1), tt)
+    (pair-unsound (inputsWith (a .section .now) (a .«data» .now) (a .o) (a .end) (a .half)) (a .offset) (a .len) (progressIn (a .half) (a .scratch .now) (a .w)) _ (part-cut (a .«data» .now) (a .offset) (a .len)) (sym (c .before .before .verify .ensures) ∙ c .enum-told .given .1), tt)
 
 same-length : tie.Need-same-length
 same-length c = search needs
@@ -47,7 +47,7 @@ returns-2 c =
     let a = c .before .before .before .before .before .before .before .before .before .before .before .before .args in
     let p = c .before .before .before .before .before .before .before .before .before .before .before .before .pre in
     let m = c .before .before .open-block .ensures in
-    (m .0 ∙ pair-sound (storeWith (a .section .now) (a .«data» .now) (a .o) (a .end) (a .half)) (a .offset) (a .len) (stateIn (a .half) (a .scratch .now) (a .w)) _ (part-cut (a .«data» .now) (a .offset) (a .len)) _ (sym (c .before .before .before .before .before .before .before .verify .ensures) ∙ c .before .before .before .before .before .verified .given .1), m .1)
+    (m .0 ∙ pair-sound (inputsWith (a .section .now) (a .«data» .now) (a .o) (a .end) (a .half)) (a .offset) (a .len) (progressIn (a .half) (a .scratch .now) (a .w)) _ (part-cut (a .«data» .now) (a .offset) (a .len)) _ (sym (c .before .before .before .before .before .before .before .verify .ensures) ∙ c .before .before .before .before .before .verified .given .1), m .1)
 
 pub open-pair-spec : {M : Type 1} → statement M
 open-pair-spec =

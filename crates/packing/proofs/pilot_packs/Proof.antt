@@ -1,6 +1,7 @@
 use borrow.Author.Needs.{needs}
 use Rattle.point.specs.Hash.{directSlot}
-use Rattle.packing.specs.Packing.{pilotAt, pilotPacks}
+use Rattle.packing.specs.Packing.{pilotPacks}
+use Rattle.packed.specs.Packed.{pilotAt}
 use Rattle.packing.proofs.pilot_packs.Statement.{statement}
 use Rattle.packing.proofs.pilot_packs.Tie as tie
 

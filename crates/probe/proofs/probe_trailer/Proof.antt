@@ -1,15 +1,14 @@
-use mathlib.Core.Path.{refl, sym, ap, _∙_}
-use Rattle.num.specs.Choice.{choice-defs}
-use Rattle.crc32.specs.V42.{crc-defs}
-use Rattle.crc32.specs.Table.{table-defs}
+use mathlib.Core.Path.{sym, ap, _∙_}
 use Rattle.sstable.specs.Trailer.{trailerNumber}
 use borrow.Author.Needs.{needs}
 use Rattle.probe.proofs.probe_trailer.Statement.{statement}
 use Rattle.probe.proofs.probe_trailer.Tie as tie
 
+slices-requires : tie.Need-slices-requires
+slices-requires c κs = search needs
+
 verify-trailer-requires : tie.Need-verify-trailer-requires
-unfolding crc-defs choice-defs table-defs
-verify-trailer-requires c κs = refl
+verify-trailer-requires c κs = search needs
 
 enum-told : tie.Need-enum-told
 enum-told c = search needs
@@ -36,6 +35,7 @@ pub probe-trailer-spec : {M : Type 1} → statement M
 probe-trailer-spec =
     tie.close
     (tie.spec
+    slices-requires
     verify-trailer-requires
     enum-told
     enum-told-2

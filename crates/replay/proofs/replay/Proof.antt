@@ -1,41 +1,37 @@
-use Prim.Native.Nat.{_≤_, _+_, _-_}
-use lib.ListN.{length}
-use native.Mathlib.Omega.{arith}
-use mathlib.Core.Logic.{⊎-elim}
+use Prim.Native.Nat.{_≤_, _-_}
 use borrow.Author.Needs.{needs}
 use Rattle.replay.proofs.replay.Statement.{statement}
 use Rattle.replay.proofs.replay.Tie as tie
 
 abbrev Inv-loop : tie.InvT-loop
-Inv-loop list name agree₀ differ₀ at₀ agree differ at = (at ≤ length list) × (agree + differ ≤ at)
+Inv-loop list count t₀ i₀ t i = i ≤ count
 
 abbrev μ-loop : tie.MeasureT-loop
-μ-loop list name agree₀ differ₀ at₀ agree differ at = length list - at
+μ-loop list count t₀ i₀ t i = count - i
+
+number-requires : tie.Need-number-requires Inv-loop μ-loop
+number-requires c κs = search needs
+
+at-most-requires : tie.Need-at-most-requires Inv-loop μ-loop
+at-most-requires c κs = search needs
+
+number-requires-2 : tie.Need-number-requires-2 Inv-loop μ-loop
+number-requires-2 c κs = search needs
 
 loop-holds : tie.Need-loop-holds Inv-loop μ-loop
 loop-holds c = search needs
 
-check-requires : tie.Need-check-requires Inv-loop μ-loop
-check-requires c κs = search needs
+ask-requires : tie.Need-ask-requires Inv-loop μ-loop
+ask-requires c κs = search needs
 
-add-agree : tie.Need-add-agree Inv-loop μ-loop
-add-agree c = search needs
-
-add-differ : tie.Need-add-differ Inv-loop μ-loop
-add-differ c = search needs
-
-advance-requires : tie.Need-advance-requires Inv-loop μ-loop
-advance-requires c κs = search needs
+add-i : tie.Need-add-i Inv-loop μ-loop
+add-i c = search needs
 
 loop-less : tie.Need-loop-less Inv-loop μ-loop
-loop-less c =
-    let l = c .advance .ensures .1 (c .before .before .before .loop-test .taken) (c .before .before .check .ensures) in
-    omega arith
+loop-less c = search needs
 
 loop-again : tie.Need-loop-again Inv-loop μ-loop
-loop-again c =
-    let l = c .advance .ensures .1 (c .before .before .before .loop-test .taken) (c .before .before .check .ensures) in
-    (c .advance .ensures .0, ⊎-elim (λ w. omega arith) (λ w. omega arith) (c .before .if1 .came))
+loop-again c = search needs
 
 returns : tie.Need-returns Inv-loop μ-loop
 returns c = search needs
@@ -46,11 +42,12 @@ replay-spec =
     (tie.spec
     Inv-loop
     μ-loop
+    number-requires
+    at-most-requires
+    number-requires-2
     loop-holds
-    check-requires
-    add-agree
-    add-differ
-    advance-requires
+    ask-requires
+    add-i
     loop-less
     loop-again
     returns)

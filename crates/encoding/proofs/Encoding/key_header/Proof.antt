@@ -1,6 +1,6 @@
 use native.Mathlib.Omega.{arith}
 use mathlib.Core.Path.{refl}
-use Rattle.encoding.specs.Encoding.{keyHeaderOf}
+use Rattle.encoding.specs.Encoding.{keyHeaderLenOf}
 use Rattle.encoding.proofs.Widths.{widths-le}
 use Rattle.encoding.proofs.Encoding.key_header.Statement.{statement}
 use Rattle.encoding.proofs.Encoding.key_header.Tie as tie
@@ -15,7 +15,7 @@ add-result-2 : tie.Need-add-result-2
 add-result-2 c = let h = widths-le _ (c .before .before .before .pre) in omega arith
 
 returns : tie.Need-returns
-unfolding keyHeaderOf
+unfolding keyHeaderLenOf
 returns c = refl
 
 pub key-header-spec : {M : Type 1} → statement M

@@ -1,0 +1,4 @@
+pub mod Refusals
+pub mod Answers
+pub mod Records
+pub mod Calls

@@ -1,0 +1,266 @@
+-- Every refusal of an entry gives one of the entry's own numbers, layer by layer, and no own number is 0.
+-- Assumes nothing.
+use mathlib.Core.Path.{_≡_, refl, sym, ap, _∙_}
+use mathlib.Core.Logic.{_↔_, _⊎_, inl, inr, ⊎-elim}
+use mathlib.Core.Bool.{Bool, true, false}
+use mathlib.Core.List.{List, [], _∷_, List·Memᴰ, List·Memᴰ·head, List·Memᴰ·tail}
+use Prim.Native.Nat.{ℕ, zero, suc, _+_, _^_, _≤_}
+use native.Mathlib.Omega.{arith}
+use lib.Dec.{eqb, leb, ltb}
+use lib.ListN.{length}
+use borrow.Author.Tests.{eqb-true, leb-true, leb-false}
+use Rattle.num.specs.Answer.{Answer, given, refused}
+use Rattle.num.specs.Choice.{ask_otherwise_then_, both, either, oneOf}
+use Rattle.num.proofs.Choice.{false-true, if-case, oneOf-case, second-either}
+use Rattle.sstable.specs.declared.Trailer.{Trailer}
+use Rattle.sstable.specs.declared.Trailer.the-variants.{Intact, UnknownType, ChecksumMismatch}
+use Rattle.sstable.specs.Trailer.{trailerNumber}
+use Rattle.block.specs.declared.Verified.{Verified}
+use Rattle.block.specs.declared.Verified.the-variants.{Sound, Unsound}
+use Rattle.block.specs.Verify.{verifiedNumber}
+use Rattle.block.specs.Record.{steppedNumber}
+use Rattle.block.specs.Walk.{Entry, WalkEnd, atEnd, stopped}
+use Rattle.encoding.specs.Encoding.{versionLenOf}
+use Rattle.header.specs.declared.Opened.{Opened}
+use Rattle.header.specs.declared.HeaderRead.{HeaderRead}
+use Rattle.header.specs.declared.HeaderRead.the-variants as header-read
+use Rattle.header.specs.Header.{headerOf, headerNumber}
+use Rattle.header.proofs.Headers.{refused-number}
+use Rattle.arena.specs.declared.Visited.{Visited}
+use Rattle.arena.specs.declared.Visited.the-variants as visited
+use Rattle.arena.specs.Key.{keyFor, keyOf}
+use Rattle.versions.specs.Version.{storedSeq, versionFor, visitOf}
+use Rattle.validate.specs.Walk.{Inputs, Progress, valueOf, progressFor, entryAsked, entriesFrom, walkEnded, recordsAsked}
+use Rattle.opening.specs.Open.{PairsEnd, blockFor, blockAsked, pairFits, pairsFrom, endFor, contentsOf, contentsFor, trailedHeader, checkedHeaderOf, openOf}
+use Rattle.packing.specs.Packing.{PackedForm, packedAs, packedFor, packOf, packFor, openPackedOf, packedRead, packedNumber}
+use Rattle.locator.specs.declared.ValueLocator.{ValueLocator}
+use Rattle.locator.specs.declared.Located.{Located}
+use Rattle.locator.specs.declared.Located.the-variants as located
+use Rattle.locator.specs.Locator.{readable, locatedNumber, versionsFrom}
+use Rattle.lookup.specs.Lookup.{keyRecordOf, keyRecordAt, slotRead, hashRead, locateOf}
+use Rattle.lookup.specs.Value.{valueInside, valueNumber}
+use Rattle.kiban.specs.Written.{lookupOf}
+use Rattle.numbered.specs.Numbers.{OwnNumber, openNumbers, packNumbers, lookupNumbers, valueNumbers}
+use Rattle.numbered.specs.Numbers.{OpensNumbered, PacksNumbered, LooksNumbered, ValuesNumbered}
+
+-- the number is one of these, as a test that computes
+abbrev Own : List ℕ → ℕ → Type 0
+Own own n = oneOf own n ≡ true
+
+-- the answer is given, or refused with one of these numbers
+abbrev Gives : {A : Type 0} → List ℕ → Answer A → Type 0
+Gives own (given a) = Unit {0}
+Gives own (refused n) = Own own n
+
+-- what holds of the answer that a question's "no" gives, and of what follows its "yes", holds behind the question
+asked : {A : Type 0} (P : A → Type 0) (t : Bool) (a b : A) → P a → P b → P (ask t otherwise a then b)
+asked P t a b p q = if-case P t b a (λ _. q) (λ _. p)
+
+-- and of a choice that is written out
+chosen : {A : Type 0} (P : A → Type 0) (t : Bool) (a b : A) → P a → P b → P (elim t [ false ↦ a | true ↦ b ])
+chosen P false a b p q = p
+chosen P true a b p q = q
+
+-- a definition that passes a refusal on and goes on from what is given refuses with one of the numbers if both do
+passed-on : {A B : Type 0} (own : List ℕ) (x : Answer A) (f : A → Answer B) → Gives own x → ((a : A) → Gives own (f a))
+    → Gives {A = B} own (elim x [ given a ↦ f a | refused n ↦ refused n ])
+passed-on own (given a) f p q = q a
+passed-on own (refused n) f p q = p
+
+-- what the test finds is in the list
+own-member : (own : List ℕ) (n : ℕ) → Own own n → List·Memᴰ n own
+unfolding oneOf either
+own-member [] n e = false-true e
+own-member (x ∷ xs) n e = go (eqb n x) refl e (own-member xs n)
+  where
+    go : (b : Bool) → eqb n x ≡ b → either b (oneOf xs n) ≡ true → (Own xs n → List·Memᴰ n xs) → List·Memᴰ n (x ∷ xs)
+    go true p q rest = List·Memᴰ·head (eqb-true n x p)
+    go false p q rest = List·Memᴰ·tail (rest q)
+
+-- a number is 0 or one of an entry's own, and 0 exactly if the entry did as it was asked
+abbrev Numbered : List ℕ → ℕ → Type 0 → Type 0
+Numbered own n Done = OwnNumber own n × ((n ≡ 0) ↔ Done)
+
+-- an entry that did as it was asked gives 0
+done : {Done : Type 0} (own : List ℕ) → Done → Numbered own 0 Done
+unfolding OwnNumber
+done own d = (inl refl, (λ _. d, λ _. refl))
+
+-- a refusal gives one of the entry's own numbers, which is not 0
+not-done : {Done : Type 0} (own : List ℕ) (n : ℕ) → oneOf own 0 ≡ false → Own own n → (Done → n ≡ 0) → Numbered own n Done
+unfolding OwnNumber
+not-done own n z e f = (inr (own-member own n e), (λ q. false-true (sym z ∙ ap (oneOf own) (sym q) ∙ e), f))
+
+-- ---- the plain opening
+
+-- a section is accepted, or refused with one of the numbers
+abbrev Reads : HeaderRead → Type 0
+Reads (header-read.Accepted o) = Unit {0}
+Reads (header-read.Refused n) = Own openNumbers n
+
+module _ (t : Inputs) (p : Progress) (e : Entry) where
+  -- behind a visit the walk goes on, or refuses with one of the numbers
+  abbrev Visits : Visited → Type 0
+  Visits v = Gives openNumbers (progressFor p e v)
+
+  -- questions 16 to 19
+  key-own : Visits (keyOf (t .section) (t .opened) (t .end) (p .cursor) (p .previous) (e .key))
+  unfolding keyOf keyFor progressFor oneOf either
+  key-own = asked Visits _ _ _ refl (asked Visits _ _ _ refl (asked Visits _ _ _ refl (asked Visits _ _ _ refl (asked Visits _ _ _ refl tt))))
+
+  -- questions 20 and 21
+  version-own : (v : Visited) → Visits v → Visits (versionFor (t .section) (t .opened) e (valueOf (t .backing) e) v)
+  unfolding versionFor progressFor oneOf either
+  version-own (visited.Refused n) q = q
+  version-own (visited.Went c) q = asked Visits _ _ _ refl (asked Visits _ _ _ refl tt)
+
+  -- questions 14 to 21
+  entry-own : Gives openNumbers (entryAsked t p e)
+  unfolding entryAsked visitOf progressFor oneOf either
+  entry-own =
+      asked (Gives openNumbers) _ _ _ refl (asked (Gives openNumbers) _ _ _ refl (version-own _ (asked Visits _ _ _ tt key-own)))
+
+-- of records, one after another
+entries-own : (t : Inputs) (p : Progress) (es : List Entry) → Gives openNumbers (entriesFrom t p es)
+unfolding entriesFrom
+entries-own t p [] = tt
+entries-own t p (e ∷ es) = passed-on openNumbers (entryAsked t p e) (λ q. entriesFrom t q es) (entry-own t p e) (λ q. entries-own t q es)
+
+-- question 13
+ended-own : (how : WalkEnd) (x : Answer Progress) → Gives openNumbers x → Gives openNumbers (walkEnded how x)
+unfolding walkEnded steppedNumber oneOf either
+ended-own how (refused n) p = p
+ended-own atEnd (given q) p = tt
+ended-own stopped (given q) p = refl
+
+-- question 12
+block-own : (t : Inputs) (offset : ℕ) (p : Progress) (raw : List ℕ) (v : Verified) → Gives openNumbers (blockFor t offset p raw v)
+unfolding blockFor recordsAsked verifiedNumber oneOf either
+block-own t offset p raw Unsound = refl
+block-own t offset p raw (Sound m) = ended-own _ _ (entries-own t p _)
+
+-- question 11
+pairs-own : (t : Inputs) (blocks : List ℕ) (at : ℕ) (p : Progress) → Gives openNumbers (pairsFrom t blocks at p)
+unfolding pairsFrom blockAsked oneOf either
+pairs-own t [] at p = tt
+pairs-own t (offset ∷ []) at p = refl
+pairs-own t (offset ∷ len ∷ pairs) at p =
+    chosen (Gives openNumbers) (pairFits t at offset len) _ _ refl
+    (passed-on openNumbers (blockAsked t offset len p) (λ q. pairsFrom t pairs (offset + len) q) (block-own t offset p _ _) (λ q. pairs-own t pairs (offset + len) q))
+
+-- questions 22 and 23
+end-own : (t : Inputs) (x : Answer PairsEnd) → Gives openNumbers x → Reads (endFor t x)
+unfolding endFor oneOf either
+end-own t (refused n) p = p
+end-own t (given e) p = asked Reads _ _ _ refl (asked Reads _ _ _ refl tt)
+
+-- questions 10 to 23
+contents-own : (s «data» blocks : List ℕ) (scratch : ℕ) (o : Opened) → Reads (contentsOf s «data» blocks scratch o)
+unfolding contentsOf oneOf either
+contents-own s «data» blocks scratch o = asked Reads _ _ _ refl (asked Reads _ _ _ refl (end-own _ _ (pairs-own _ blocks 0 _)))
+
+-- questions 3 to 6
+header-own : (s : List ℕ) (h : HeaderRead) → headerOf s ≡ h → Reads h
+unfolding oneOf either
+header-own s (header-read.Accepted o) e = tt
+header-own s (header-read.Refused n) e = oneOf-case (Own openNumbers) (3 ∷ 4 ∷ 5 ∷ 6 ∷ []) n (refused-number s n e) (refl, (refl, (refl, (refl, tt))))
+
+-- questions 1 and 2
+trailed-own : (s : List ℕ) (t : Trailer) → Reads (trailedHeader s t)
+unfolding trailedHeader trailerNumber oneOf either
+trailed-own s UnknownType = refl
+trailed-own s ChecksumMismatch = refl
+trailed-own s Intact = header-own s (headerOf s) refl
+
+-- the plain opening
+open-own : (s «data» blocks : List ℕ) (scratch : ℕ) (h : HeaderRead) → Reads h → Reads (contentsFor s «data» blocks scratch h)
+unfolding contentsFor
+open-own s «data» blocks scratch (header-read.Refused n) p = p
+open-own s «data» blocks scratch (header-read.Accepted o) p = contents-own s «data» blocks scratch o
+
+read-numbered : (h : HeaderRead) → Reads h → Numbered openNumbers (headerNumber h) ((o : Opened) × (h ≡ header-read.Accepted o))
+unfolding headerNumber oneOf either
+read-numbered (header-read.Accepted o) p = done openNumbers (o, refl)
+read-numbered (header-read.Refused n) p = not-done openNumbers n refl p (λ q. ap headerNumber (q .1))
+
+pub opens-numbered : OpensNumbered
+unfolding OpensNumbered openOf checkedHeaderOf
+opens-numbered s «data» blocks scratch =
+    let x = read-numbered _ (open-own s «data» blocks scratch _ (trailed-own s _)) in record { number = x .0; zero = x .1 }
+
+-- ---- questions 7 to 9, and the packed opening
+
+-- a number of the plain opening is one of the packed opening
+also-packed : (n : ℕ) → Own openNumbers n → Own packNumbers n
+unfolding oneOf
+also-packed n p = second-either _ _ (λ _. second-either _ _ (λ _. second-either _ _ (λ _. p)))
+
+packed-own : (s : List ℕ) (o : Opened) (h : HeaderRead) → Reads h → Gives packNumbers (packedFor s o h)
+unfolding packedFor
+packed-own s o (header-read.Refused n) p = also-packed n p
+packed-own s o (header-read.Accepted same) p = tt
+
+pack-own : (s «data» blocks : List ℕ) (scratch room : ℕ) (h : HeaderRead) → Reads h → Gives packNumbers (packFor s «data» blocks scratch room h)
+unfolding packFor packOf oneOf either
+pack-own s «data» blocks scratch room (header-read.Refused n) p = also-packed n p
+pack-own s «data» blocks scratch room (header-read.Accepted o) p =
+    asked (Gives packNumbers) _ _ _ refl (asked (Gives packNumbers) _ _ _ refl (asked (Gives packNumbers) _ _ _ refl
+    (packed-own s o _ (contents-own s «data» blocks scratch o))))
+
+pack-numbered : (x : Answer PackedForm) → Gives packNumbers x
+    → Numbered packNumbers (packedNumber (packedRead x)) ((p : Opened) × ((bytes : List ℕ) × (x ≡ packedAs p bytes)))
+unfolding packedNumber packedRead oneOf either
+pack-numbered (given f) p = done packNumbers (f .opened, (f .bytes, refl))
+pack-numbered (refused n) p = not-done packNumbers n refl p (λ q. ap (λ (x : Answer PackedForm). packedNumber (packedRead x)) (q .1 .1))
+
+pub packs-numbered : PacksNumbered
+unfolding PacksNumbered openPackedOf checkedHeaderOf
+packs-numbered s «data» blocks scratch room =
+    let x = pack-numbered _ (pack-own s «data» blocks scratch room _ (trailed-own s _)) in record { number = x .0; zero = x .1 }
+
+-- ---- the lookup
+
+-- the answer is a version or none, or refused with one of the numbers
+abbrev Locates : Located → Type 0
+Locates (located.Found l) = Unit {0}
+Locates located.Missing = Unit {0}
+Locates (located.Refused n) = Own lookupNumbers n
+
+-- question 25, of the versions
+versions-own : (count : ℕ) (s : List ℕ) (o : Opened) (pos limit : ℕ) → Locates (versionsFrom count s o pos limit)
+unfolding versionsFrom oneOf either
+versions-own zero s o pos limit = tt
+versions-own (suc count) s o pos limit =
+    chosen Locates (both (readable s pos (o .encoding .seq)) (ltb (storedSeq s o pos) (2 ^ 64))) _ _ refl
+    (chosen Locates (leb (storedSeq s o pos) limit) _ _ (versions-own count s o (pos + versionLenOf (o .encoding)) limit) (asked Locates _ _ _ refl tt))
+
+-- questions 24 and 25
+lookup-own : (s numbers key : List ℕ) (limit : ℕ) → Locates (lookupOf s numbers key limit)
+unfolding lookupOf locateOf hashRead slotRead keyRecordAt keyRecordOf oneOf either
+lookup-own s numbers key limit =
+    asked Locates _ _ _ refl (asked Locates _ _ _ refl (asked Locates _ _ _ refl (asked Locates _ _ _ refl (asked Locates _ _ _ tt
+    (asked Locates _ _ _ refl (asked Locates _ _ _ tt (asked Locates _ _ _ refl (asked Locates _ _ _ tt
+    (asked Locates _ _ _ refl (asked Locates _ _ _ tt (versions-own _ s _ _ limit)))))))))))
+
+located-numbered : (x : Located) → Locates x → Numbered lookupNumbers (locatedNumber x) ((x ≡ located.Missing) ⊎ ((l : ValueLocator) × (x ≡ located.Found l)))
+unfolding locatedNumber oneOf either
+located-numbered (located.Found l) p = done lookupNumbers (inr (l, refl))
+located-numbered located.Missing p = done lookupNumbers (inl refl)
+located-numbered (located.Refused n) p = not-done lookupNumbers n refl p (⊎-elim (ap locatedNumber) (λ q. ap locatedNumber (q .1)))
+
+pub looks-numbered : LooksNumbered
+unfolding LooksNumbered
+looks-numbered s numbers key limit =
+    let x = located-numbered _ (lookup-own s numbers key limit) in record { number = x .0; zero = x .1 }
+
+-- ---- the value: question 26
+
+value-numbered : («data» : List ℕ) (offset len : ℕ) → Numbered valueNumbers (valueNumber «data» offset len) (offset + len ≤ length «data»)
+unfolding valueNumber valueInside oneOf either
+value-numbered «data» offset len =
+    if-case (λ (n : ℕ). Numbered valueNumbers n (offset + len ≤ length «data»)) _ _ _ (λ e. done valueNumbers (leb-true _ _ e))
+    (λ e. not-done valueNumbers 26 refl refl (λ q. let f = leb-false (offset + len) (length «data») e in omega arith))
+
+pub values-numbered : ValuesNumbered
+unfolding ValuesNumbered
+values-numbered «data» offset len = let x = value-numbered «data» offset len in record { number = x .0; zero = x .1 }

@@ -1,0 +1,4 @@
+// The numbers that the entries give: definitions and theorems alone.
+pub fn nothing() -> u64 {
+    0
+}

@@ -1,0 +1,104 @@
+// An opened record as sixteen numbers and an answer as six: written, and read back.
+ghost use mathlib.Core.Path.{_≡_};
+ghost use lib.Seq.{sets};
+ghost use Rattle.numbers.specs.Numbers.{flagNumber, recordNumbers};
+ghost use Rattle.numbers.specs.Numbers.{openedOf, isRecordNumbers, answerNumbers, noneNumbers};
+use encoding::Encoding;
+use header::Opened;
+use locator::ValueLocator;
+
+fn flag_number(b: bool) -> u64
+    ensures { λ r. ⌜ r ≡ flagNumber b ⌝ }
+{
+    if b { 1 } else { 0 }
+}
+
+// Writes an opened record as its sixteen numbers.
+pub fn write_record(o: Opened, out: &mut [u64; 16])
+    ensures { λ r. ⌜ now (out .exit) ≡ sets (now (out .entry)) 0 (recordNumbers o) ⌝ }
+{
+    let e = o.encoding;
+    out[0] = o.seed;
+    out[1] = o.min_seq;
+    out[2] = o.count as u64;
+    out[3] = o.buckets as u64;
+    out[4] = o.arena as u64;
+    out[5] = e.address as u64;
+    out[6] = e.key as u64;
+    out[7] = e.count as u64;
+    out[8] = e.seq as u64;
+    out[9] = e.value as u64;
+    out[10] = flag_number(e.checksum);
+    out[11] = o.scan as u64;
+    out[12] = flag_number(o.packed);
+    out[13] = 0;
+    out[14] = 0;
+    out[15] = 0;
+}
+
+// Could these sixteen numbers be a record that an opening wrote?
+pub fn is_record(numbers: &[u64; 16]) -> bool
+    ensures { λ r. ⌜ r ≡ isRecordNumbers (now (numbers .entry)) ⌝ }
+{
+    if 1 < numbers[10] {
+        return false;
+    }
+    if 1 < numbers[12] {
+        return false;
+    }
+    if numbers[13] != 0 {
+        return false;
+    }
+    if numbers[14] != 0 {
+        return false;
+    }
+    numbers[15] == 0
+}
+
+// The record that sixteen numbers are.
+pub fn read_record(numbers: &[u64; 16]) -> Opened
+    ensures { λ r. ⌜ r ≡ openedOf (now (numbers .entry)) ⌝ }
+{
+    Opened {
+        seed: numbers[0],
+        min_seq: numbers[1],
+        count: numbers[2] as usize,
+        buckets: numbers[3] as usize,
+        arena: numbers[4] as usize,
+        encoding: Encoding {
+            address: numbers[5] as usize,
+            key: numbers[6] as usize,
+            count: numbers[7] as usize,
+            seq: numbers[8] as usize,
+            value: numbers[9] as usize,
+            checksum: numbers[10] == 1,
+        },
+        scan: numbers[11] as usize,
+        packed: numbers[12] == 1,
+    }
+}
+
+// Writes the version that was found as its six numbers.
+pub fn write_answer(l: ValueLocator, answer: &mut [u64; 6])
+    ensures { λ r. ⌜ now (answer .exit) ≡ sets (now (answer .entry)) 0 (answerNumbers l) ⌝ }
+{
+    let kind = l.kind;
+    answer[0] = 1;
+    answer[1] = kind.to_u8() as u64;
+    answer[2] = l.seq;
+    answer[3] = l.offset;
+    answer[4] = l.len;
+    answer[5] = l.checksum;
+}
+
+// Writes that there is none.
+pub fn write_missing(answer: &mut [u64; 6])
+    ensures { λ r. ⌜ now (answer .exit) ≡ sets (now (answer .entry)) 0 noneNumbers ⌝ }
+{
+    answer[0] = 0;
+    answer[1] = 0;
+    answer[2] = 0;
+    answer[3] = 0;
+    answer[4] = 0;
+    answer[5] = 0;
+}

@@ -1,0 +1,4 @@
+pub mod Agreeing
+pub mod VersionReading
+pub mod Stored
+pub mod Visiting

@@ -1,0 +1,5 @@
+pub mod Blocks
+pub mod Headers
+pub mod Keys
+pub mod Openings
+pub mod Lookups
