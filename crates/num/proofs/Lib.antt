@@ -10,3 +10,4 @@ pub mod Product
 pub mod Steps
 pub mod Xor
 pub mod Overlap
+pub mod Regions

@@ -1,0 +1,3 @@
+pub mod Construct
+pub mod Scratch
+pub mod Internal
