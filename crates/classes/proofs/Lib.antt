@@ -1,0 +1,4 @@
+pub mod Items
+pub mod Kept
+pub mod Loops
+pub mod Sorted

@@ -148,7 +148,7 @@ directPilot at = 2 ^ 31 + at
 unfoldable pub placeSingle : List ℕ → Placement → ℕ → Placement
 placeSingle hs t x =
     if eqb (sizeOf hs x) 1 then
-      record { pilots = set (t .pilots) x (directPilot (leastFree (t .slots))); slots = set (t .slots) (leastFree (t .slots)) (getD (membersOf hs x) 0 0) }
+    record { pilots = set (t .pilots) x (directPilot (leastFree (t .slots))); slots = set (t .slots) (leastFree (t .slots)) (getD (membersOf hs x) 0 0) }
     else t
 
 unfoldable pub placeSingles : List ℕ → Placement → List ℕ → Placement

@@ -1,4 +1,4 @@
--- Stores into one region of a slice: what the region then holds, and that all else stays. 
+-- Stores into one region of a slice: what the region then holds, and that all else stays.
 -- `RegionHolds` and `Frame` are records, so antt finds the slice, the region and the values from the state that is handed over.
 -- Places of the slice are given by an equation to the place in the region, which `omega arith` proves: `0 + k`, `b + 1 + x` and the like never meet.
 -- Assumes nothing.

@@ -1,0 +1,4 @@
+// The builder's area read back.
+pub fn nothing() -> u64 {
+    0
+}
