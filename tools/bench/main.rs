@@ -4,11 +4,15 @@
 
 #[path = "../common/blocks.rs"]
 mod blocks;
+#[path = "../common/chosen.rs"]
+mod chosen;
 #[path = "../common/ours.rs"]
 mod ours;
 #[path = "../common/rng.rs"]
 mod rng;
 
+#[cfg(has = "probe_construct")]
+mod construct;
 mod leaves;
 mod measure;
 mod stores;
@@ -52,6 +56,7 @@ fn main() {
         "kiban_open": stores::opening;
         "kiban_open_packed": stores::opening_packed;
         "kiban_lookup": stores::lookups;
+        "probe_construct": construct::rows;
         "kiban_write": stores::building;
     };
     println!("{rounds} interleaved rounds, medians, per call or per record");

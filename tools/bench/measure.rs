@@ -24,8 +24,18 @@ pub fn row(name: String, units: usize, limit: Option<f64>, ours: Work, rust: Wor
     Row { name, ours, rust, units, limit }
 }
 
+/// 1000 as `1,000`.
+pub fn thousands(number: usize) -> String {
+    match number {
+        0..1000 => number.to_string(),
+        _ => format!("{},{:03}", thousands(number / 1000), number % 1000),
+    }
+}
+
 /// How long one batch of a side shall take.
 const BATCH_NS: f64 = 300_000.0;
+/// What takes longer is measured in fewer rounds.
+const LONG_NS: f64 = 50_000_000.0;
 
 fn time(work: &mut Work, times: usize) -> f64 {
     let start = Instant::now();
@@ -33,13 +43,13 @@ fn time(work: &mut Work, times: usize) -> f64 {
     start.elapsed().as_nanos() as f64 / times as f64
 }
 
-/// So many pieces of work that a batch takes about `BATCH_NS`.
-fn batch(work: &mut Work) -> usize {
+/// So many pieces of work that a batch takes about `BATCH_NS`, and how many rounds go by for one measurement.
+fn batch(work: &mut Work) -> (usize, usize) {
     let mut times = 1;
     loop {
         let each = time(work, times);
         if each * times as f64 >= BATCH_NS / 4.0 {
-            return (BATCH_NS / each).max(1.0) as usize;
+            return ((BATCH_NS / each).max(1.0) as usize, (each / LONG_NS).ceil() as usize);
         }
         times *= 2;
     }
@@ -52,21 +62,23 @@ fn median(times: &mut [f64]) -> f64 {
 
 struct Times {
     batch: usize,
+    every: usize,
     ours: Vec<f64>,
     rust: Vec<f64>,
 }
 
-/// Each round measures every row once on both sides; the side that goes first alternates. Before the first both
-/// sides must give the same number.
+/// Each round measures every row that is due once on both sides; the side that goes first alternates. Before the first
+/// both sides must give the same number.
 pub fn measure(mut rows: Vec<Row>, rounds: usize) {
     let prepare = |row: &mut Row| {
         assert_eq!((row.ours)(1), (row.rust)(1), "{}: both sides give the same", row.name);
-        Times { batch: batch(&mut row.rust), ours: Vec::new(), rust: Vec::new() }
+        let (batch, every) = batch(&mut row.rust);
+        Times { batch, every, ours: Vec::new(), rust: Vec::new() }
     };
     let mut all: Vec<Times> = rows.iter_mut().map(prepare).collect();
     for round in 0..rounds {
-        for (row, times) in rows.iter_mut().zip(&mut all) {
-            if round % 2 == 0 {
+        for (row, times) in rows.iter_mut().zip(&mut all).filter(|(_, times)| round % times.every == 0) {
+            if times.ours.len() % 2 == 0 {
                 times.ours.push(time(&mut row.ours, times.batch));
                 times.rust.push(time(&mut row.rust, times.batch));
             } else {

@@ -1,7 +1,7 @@
 //! Opening, lookup and building on stores of 20-byte keys with one version each and 32-byte values; lookup of 16-byte keys too,
 //! whose hash has no last odd bytes.
 use crate::blocks::{Entry, block};
-use crate::measure::{Row, Work, repeated, row};
+use crate::measure::{Row, Work, repeated, row, thousands};
 use crate::ours::{self, Offered, Record, Scratch};
 use crate::rng::Rng;
 use oracle::compact::{Index, open, open_packed, open_packed_shared, open_shared};
@@ -71,11 +71,6 @@ fn rust_build(entries: &[Entry], offsets: &[u64]) -> Vec<u8> {
         builder.add(e.kind, &e.key, &e.value, e.sequence, true, offset).expect("taken");
     }
     builder.finish().expect("a section")
-}
-
-/// 1000 as `1,000`.
-fn thousands(number: usize) -> String {
-    format!("{},{:03}", number / 1000, number % 1000)
 }
 
 fn per_unit(name: String, units: usize, ours: Work, rust: Work) -> Row {

@@ -98,6 +98,16 @@ mod c {
         ) -> u64;
         pub fn probe_trailer(section: *const u8, section_len: usize) -> u64;
         pub fn probe_section_len(totals: *const [u64; 9], prefix: u64) -> u64;
+        pub fn probe_construct(
+            area: *const u8,
+            area_len: usize,
+            count: u64,
+            hashes: *mut u64,
+            hashes_len: usize,
+            scratch: *mut u32,
+            scratch_len: usize,
+            seed: *mut u64,
+        ) -> u64;
 
         pub safe fn probe_fingerprint(h: u64) -> u64;
         pub safe fn probe_bucket(h: u64, count: u64) -> u64;
@@ -166,6 +176,29 @@ pub fn trailer(section: &[u8]) -> u64 {
 pub fn section_len(totals: &[u64; 9], prefix: u64) -> u64 {
     // SAFETY: as above.
     unsafe { c::probe_section_len(totals, prefix) }
+}
+
+#[inline(always)]
+pub fn construct(area: &[u8], count: u64, hashes: &mut [u64], scratch: &mut [u32], seed: &mut u64) -> u64 {
+    // SAFETY: as above.
+    unsafe {
+        c::probe_construct(
+            area.as_ptr(),
+            area.len(),
+            count,
+            hashes.as_mut_ptr(),
+            hashes.len(),
+            scratch.as_mut_ptr(),
+            scratch.len(),
+            seed,
+        )
+    }
+}
+
+/// The pilots and the slots that construction of n keys leaves in its scratch.
+pub fn placed(scratch: &[u32], n: usize) -> (&[u32], &[u32]) {
+    let buckets = n.div_ceil(2);
+    scratch[2 * buckets + 5 + 2 * n..][..buckets + n].split_at(buckets)
 }
 
 #[inline(always)]

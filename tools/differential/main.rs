@@ -6,6 +6,8 @@
 mod blocks;
 #[path = "../common/building.rs"]
 mod building_expected;
+#[path = "../common/chosen.rs"]
+mod chosen;
 #[path = "../common/damage.rs"]
 mod damage;
 #[path = "../common/entries.rs"]
@@ -80,6 +82,7 @@ layers! {
     opening: "kiban_open";
     lookup: "kiban_lookup" "kiban_value";
     spans: "kiban_span";
+    construct: "probe_construct";
     building: "kiban_add" "kiban_size" "kiban_write";
 }
 

@@ -54,7 +54,7 @@ impl Run {
 fn name((number, note): (u64, &str)) -> String {
     match (number, note) {
         (NO_NUMBER, _) => "panic".to_string(),
-        (0, "found" | "none") => note.to_string(),
-        (number, _) => number.to_string(),
+        (number, "") => number.to_string(),
+        (_, note) => note.to_string(),
     }
 }
