@@ -1,1 +1,14 @@
 pub mod Examples
+pub mod Sorted
+pub mod Items
+pub mod Order
+pub mod Free
+pub mod Different
+pub mod Members
+pub mod Filling
+pub mod Placing
+pub mod Slots
+pub mod Singles
+pub mod Placed
+pub mod Seeds
+pub mod Promises

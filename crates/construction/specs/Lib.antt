@@ -1,3 +1,4 @@
 pub mod Construct
 pub mod Scratch
 pub mod Internal
+pub mod Promises
