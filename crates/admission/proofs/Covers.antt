@@ -8,6 +8,7 @@ use native.Mathlib.Omega.{arith}
 use lib.ListN.{length, getD, take, drop}
 use Rattle.admission.specs.Blocks.{offsetAt, lengthAt, pairEnd, pairStart, blockAt, Covers}
 use Rattle.admission.proofs.Block.{WholeBlock}
+use Rattle.admission.proofs.Entries.{stands-exactly}
 
 -- ---- pair by pair
 
@@ -145,7 +146,7 @@ covers-exactly «data» blocks = (to, from)
           begins = λ i h. p .each i h .begins ∙ start-zero blocks i;
           finishes = λ i h. p .each i h .finishes;
           sound = λ i h. p .each i h .block .sound;
-          walked = λ i h. p .each i h .block .walked;
+          walked = λ i h m b. stands-exactly (blockAt «data» blocks i) m b .0 (p .each i h .block .walked);
           whole = sym (start-zero blocks (length blocks / 2)) ∙ p .whole;
         }
 
@@ -158,7 +159,9 @@ covers-exactly «data» blocks = (to, from)
               record {
                 begins = c .begins i h ∙ sym (start-zero blocks i);
                 finishes = c .finishes i h;
-                block = record { sound = c .sound i h; walked = c .walked i h };
+                block =
+                    let b = c .sound i h in
+                    record { sound = b; walked = stands-exactly (blockAt «data» blocks i) (b .0) (b .1) .1 (c .walked i h (b .0) (b .1)) };
               };
           whole = start-zero blocks (length blocks / 2) ∙ c .whole;
         })

@@ -1,4 +1,5 @@
 pub mod Block
+pub mod Entries
 pub mod Covers
 pub mod Pairs
 pub mod Stored

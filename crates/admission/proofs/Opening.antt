@@ -23,7 +23,7 @@ use Rattle.header.specs.Facts.{Header}
 use Rattle.header.proofs.Headers.{header-facts, facts-header}
 use Rattle.arena.specs.declared.Cursor.{Cursor}
 use Rattle.num.specs.Answer.{Answer, given, refused}
-use Rattle.validate.specs.Walk.{Inputs, Progress}
+use Rattle.validate.specs.Walk.{Inputs}
 use Rattle.opening.specs.Open.{pilotInside, pilotsInside, startOf, PairsEnd, pairsFrom, endsTogether, prefixesCounted, endFor, inputsOf, contentsOf, contentsFor, trailedHeader, checkedHeaderOf, openOf}
 use Rattle.opening.proofs.Pilots.{pilots-each, pilot-slot}
 use Rattle.agreement.specs.Agrees.{Agrees}
@@ -70,7 +70,7 @@ finish t x e c = if-true _ _ _ e ∙ if-true _ _ _ c
 pub record Contents (s «data» blocks : List ℕ) (scratch : ℕ) (o : Opened) : Type 0 where
   pub pilots : PilotsInside s o
   pub covers : Covers «data» blocks
-  pub agrees : Agrees (inputsOf s «data» scratch o) (storeEntries «data» blocks)
+  pub agrees : Agrees s «data» scratch o (storeEntries «data» blocks)
 
 pub contents-asks : (s «data» blocks : List ℕ) (scratch : ℕ) (o p : Opened) → contentsOf s «data» blocks scratch o ≡ Accepted p
     → Contents s «data» blocks scratch o × (o ≡ p)
@@ -83,7 +83,7 @@ contents-asks s «data» blocks scratch o p e =
     let q = f .last .progress in
     let d = ends-data t (f .last .at) (q .cursor) (f .together) in
     let w = pairs-exactly t blocks (startOf o) q .0 (f .through ∙ ap (λ (n : ℕ). given (record { at = n; progress = q })) d) in
-    let g = accepted-exactly t (storeEntries «data» blocks) (f .last .at) .0 (q, w .1, f .together, f .counted) in (
+    let g = accepted-exactly s «data» scratch o (storeEntries «data» blocks) (f .last .at) .0 (q, w .1, f .together, f .counted) in (
       record {
         pilots = record { direct = λ k h. pilot-slot s o k (pilots-each s o (e₁ .0) k h) };
         covers = w .0;
@@ -97,7 +97,7 @@ pub asks-contents : (s «data» blocks : List ℕ) (scratch : ℕ) (o : Opened) 
 unfolding contentsOf pilotsInside inputsOf
 asks-contents s «data» blocks scratch o c =
     let t = inputsOf s «data» scratch o in
-    let g = accepted-exactly t (storeEntries «data» blocks) (length «data») .1 (refl, c .agrees) in
+    let g = accepted-exactly s «data» scratch o (storeEntries «data» blocks) (length «data») .1 (refl, c .agrees) in
     let w = pairs-exactly t blocks (startOf o) (g .0) .1 (c .covers, g .1) in
     if-true _ _ _ (yes-each (pilotInside s o) (o .buckets) (λ k h. yes-pilot s o k (c .pilots .direct k h)))
     ∙ if-true _ _ _ (eq-eqb _ _ (c .covers .even))

@@ -1,19 +1,17 @@
 -- The records of a store: where each stands in its blocks, and where its value lies in the data.
 -- Assumes nothing.
 use mathlib.Core.Path.{_≡_, sym, ap, _∙_, subst}
-use mathlib.Core.List.{List, [], _∷_, _++_, List·Memᴰ, List·Memᴰ·not-nil, List·Memᴰ·cases-cons, List·Memᴰ·append-cases, Memᴰ·append-left, Memᴰ·append-right, Memᴰ·map, Memᴰ·of-map}
+use mathlib.Core.List.{List, [], _∷_, _++_, List·Memᴰ, List·Memᴰ·not-nil, List·Memᴰ·append-cases, Memᴰ·append-left, Memᴰ·append-right, Memᴰ·map, Memᴰ·of-map}
 use mathlib.Core.Logic.{⊎-elim}
-use Prim.Native.Nat.{ℕ, zero, suc, _+_, _*_, _<_, _≤_, _^_}
+use Prim.Native.Nat.{ℕ, zero, suc, _+_, _*_, _<_, _≤_}
 use native.Mathlib.Omega.{arith}
 use lib.ListN.{length, take, drop, length-take}
 use Rattle.num.specs.Number.{Bytes}
-use Rattle.num.proofs.Number.{leAt-lt}
 use Rattle.num.proofs.Lists.{part-length, part-part, bytes-nil, bytes-take, bytes-drop}
 use Rattle.sstable.specs.declared.Kind.the-variants.{Tombstone}
 use Rattle.block.specs.Verify.{entriesEndIn}
-use Rattle.block.specs.Walk.{Entry, noEntries, entryThen, walkAt, recordsOf}
-use Rattle.block.proofs.Step.{step-moved}
-use Rattle.block.proofs.Walk.{walk-ind, walk-inside, walk-bytes}
+use Rattle.block.specs.Walk.{Entry, recordsOf}
+use Rattle.block.proofs.Walk.{walk-inside, walk-bytes}
 use Rattle.validate.specs.Walk.{placed, valueOf}
 use Rattle.admission.specs.Blocks.{offsetAt, lengthAt, pairEnd, blockAt, Covers, blockEntries, storeEntries}
 use Rattle.admission.proofs.Covers.{offset-next, block-next}
@@ -35,21 +33,6 @@ block-entry raw e i =
 block-key-bytes : (raw : List ℕ) → Bytes raw → (e : Entry) → List·Memᴰ e (recordsOf raw .entries) → Bytes (e .key)
 unfolding recordsOf
 block-key-bytes raw b e i = walk-bytes raw (entriesEndIn raw) b 0 [] bytes-nil e i
-
-walk-seq : (s : List ℕ) (end : ℕ) → Bytes s → (pos : ℕ) (prev : List ℕ) (e : Entry) → List·Memᴰ e (walkAt s end pos prev .entries) → e .seq < 2 ^ 64
-unfolding noEntries entryThen
-walk-seq s end b =
-    walk-ind s end (λ pos prev w. (e : Entry) → List·Memᴰ e (w .entries) → e .seq < 2 ^ 64)
-    (λ pos prev h e i. absurd (List·Memᴰ·not-nil i))
-    (λ pos prev h q e i. absurd (List·Memᴰ·not-nil i))
-    (λ pos prev x next t rest e i.
-    let n : x .seq < 2 ^ 64 = subst (λ (k : ℕ). k < 2 ^ 64) (step-moved s end pos prev x next t .seq) (leAt-lt s b 8 (pos + 13)) in
-    ⊎-elim (λ same. subst (λ (y : Entry). y .seq < 2 ^ 64) (sym same) n) (λ later. rest e later) (List·Memᴰ·cases-cons i))
-
--- and sequences of 64 bits
-block-seq : (raw : List ℕ) → Bytes raw → (e : Entry) → List·Memᴰ e (recordsOf raw .entries) → e .seq < 2 ^ 64
-unfolding recordsOf
-block-seq raw b e i = walk-seq raw (entriesEndIn raw) b 0 [] e i
 
 -- ---- a record of the store is a record of one of its blocks
 
@@ -152,11 +135,3 @@ stored-key-bytes «data» blocks b e i =
     let s = stored-in «data» blocks e i in
     subst (λ (x : Entry). Bytes (x .key)) (s .same)
     (block-key-bytes (blockAt «data» blocks (s .pair)) (block-bytes «data» blocks (s .pair) b) (s .inner) (s .member))
-
--- and sequences of 64 bits
-pub stored-seq : («data» blocks : List ℕ) → Bytes «data» → (e : Entry) → List·Memᴰ e (storeEntries «data» blocks) → e .seq < 2 ^ 64
-unfolding placed
-stored-seq «data» blocks b e i =
-    let s = stored-in «data» blocks e i in
-    subst (λ (x : Entry). x .seq < 2 ^ 64) (s .same)
-    (block-seq (blockAt «data» blocks (s .pair)) (block-bytes «data» blocks (s .pair) b) (s .inner) (s .member))

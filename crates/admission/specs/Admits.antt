@@ -13,7 +13,7 @@ use Rattle.header.specs.declared.Opened.{Opened}
 use Rattle.header.specs.declared.HeaderRead.the-variants.{Accepted}
 use Rattle.header.specs.Header.{packedRecord}
 use Rattle.header.specs.Facts.{Header}
-use Rattle.opening.specs.Open.{inputsOf, openOf}
+use Rattle.opening.specs.Open.{openOf}
 use Rattle.packing.specs.Packing.{packedAs, openPackedOf}
 use Rattle.packed.specs.Packed.{packedBytes}
 use Rattle.agreement.specs.Agrees.{Agrees}
@@ -35,7 +35,7 @@ pub record Admits (s «data» blocks : List ℕ) (scratch : ℕ) (o : Opened) : 
   -- questions 11 to 13 of every pair, and 22 of the data
   pub covers : Covers «data» blocks
   -- questions 14 to 23 of every record, key and version
-  pub agrees : Agrees (inputsOf s «data» scratch o) (storeEntries «data» blocks)
+  pub agrees : Agrees s «data» scratch o (storeEntries «data» blocks)
 
 -- question 8: each pilot without bit 31 is below 2^23
 pub record PilotsPack (s : List ℕ) (o : Opened) : Type 0 where

@@ -2,10 +2,12 @@
 use mathlib.Core.Path.{_≡_}
 use mathlib.Core.List.{List, [], _∷_, _++_, map}
 use Prim.Native.Nat.{ℕ, zero, suc, _+_, _*_, _/_, _%_, _<_, _≤_}
-use lib.ListN.{length, getD}
+use lib.ListN.{length, getD, take, drop}
 use Rattle.block.specs.declared.BlockMeta.{BlockMeta}
+use Rattle.block.specs.declared.EntryHeader.{EntryHeader}
 use Rattle.block.specs.Verify.{SoundBlock}
-use Rattle.block.specs.Walk.{Entry, atEnd, recordsOf}
+use Rattle.block.specs.EntryHeader.{SoundEntry}
+use Rattle.block.specs.Walk.{Entry, recordsOf}
 use Rattle.validate.specs.Walk.{placed}
 use Rattle.opening.specs.Open.{blockBytes}
 
@@ -30,6 +32,23 @@ pairStart blocks (suc i) = pairEnd blocks i
 unfoldable pub blockAt : List ℕ → List ℕ → ℕ → List ℕ
 blockAt «data» blocks i = blockBytes «data» (offsetAt blocks i) (lengthAt blocks i)
 
+-- question 13 of a record at a place of a block whose entries end at `end`, behind the previous key: its entry's numbers `h` are
+-- sound, it shares no more than that key's length, and its key is what it shares, then its own bytes
+pub record EntryStands (raw : List ℕ) (end pos : ℕ) (prev : List ℕ) (h : EntryHeader) (e : Entry) : Type 0 where
+  pub sound : SoundEntry raw end pos h
+  pub shared : h .shared ≤ length prev
+  pub key : e .key ≡ take (h .shared) prev ++ take (h .«non_shared») (drop (pos + 21) raw)
+  pub seq : e .seq ≡ h .seq
+  pub kind : e .kind ≡ h .kind
+  pub place : e .place ≡ pos + 21 + h .«non_shared»
+  pub size : e .size ≡ h .«value_len»
+
+-- records stand one behind the other from a place to the end of the entries
+unfoldable pub EntriesStand : List ℕ → ℕ → ℕ → List ℕ → List Entry → Type 0
+EntriesStand raw end pos prev [] = pos ≡ end
+EntriesStand raw end pos prev (e ∷ es) =
+    (h : EntryHeader) × EntryStands raw end pos prev h e × EntriesStand raw end (e .place + e .size) (e .key) es
+
 -- the block list passes questions 11 to 13, and its pairs cover the data
 pub record Covers («data» blocks : List ℕ) : Type 0 where
   -- 11
@@ -38,8 +57,9 @@ pub record Covers («data» blocks : List ℕ) : Type 0 where
   pub finishes : (i : ℕ) → 2 * i + 1 < length blocks → pairEnd blocks i ≤ length «data»
   -- 12
   pub sound : (i : ℕ) → 2 * i + 1 < length blocks → (m : BlockMeta) × SoundBlock (blockAt «data» blocks i) m
-  -- 13
-  pub walked : (i : ℕ) → 2 * i + 1 < length blocks → recordsOf (blockAt «data» blocks i) .ended ≡ atEnd
+  -- 13: the block's records stand from its start, behind no key, to the end of its entries
+  pub walked : (i : ℕ) → 2 * i + 1 < length blocks → (m : BlockMeta) → SoundBlock (blockAt «data» blocks i) m
+      → EntriesStand (blockAt «data» blocks i) (m .«entries_end») 0 [] (recordsOf (blockAt «data» blocks i) .entries)
   -- 22: the last pair ends where the data do; without a pair they are empty
   pub whole : pairStart blocks (length blocks / 2) ≡ length «data»
 
@@ -55,5 +75,5 @@ storeEntries «data» (offset ∷ len ∷ pairs) = blockEntries «data» offset 
 
 -- names all definitions of this file: `unfolding block-defs` opens them
 unfoldable pub block-defs : ℕ
-unfolding offsetAt lengthAt pairEnd pairStart blockAt blockEntries storeEntries
+unfolding offsetAt lengthAt pairEnd pairStart blockAt EntriesStand blockEntries storeEntries
 block-defs = 0

@@ -9,17 +9,17 @@ use native.Mathlib.Omega.{arith}
 use lib.Dec.{ltb}
 use borrow.Author.Tests.{ltb-true, ltb-false}
 use Rattle.num.proofs.Steps.{steps-le}
-use Rattle.encoding.specs.Encoding.{group, keyHeaderLenOf, versionLenOf}
+use Rattle.encoding.specs.Encoding.{keyHeaderLenOf, versionLenOf}
 use Rattle.header.specs.declared.Opened.{Opened}
 use Rattle.agreement.specs.Keys.{keyRecordLen, addressOf, keyHeaderOf, versionCount, suffixPlace, anchorIndex, firstVersion, versionPlace}
 
 -- an anchor's anchor is itself
-pub anchor-self : (k : ℕ) → k % group ≡ 0 → anchorIndex k ≡ k
+pub anchor-self : (k : ℕ) → k % 1024 ≡ 0 → anchorIndex k ≡ k
 unfolding anchorIndex
 anchor-self k h = omega arith
 
 -- a key that is no anchor has the anchor of the key before
-pub anchor-before : (k : ℕ) → (suc k % group ≡ 0 → ⊥) → anchorIndex (suc k) ≡ anchorIndex k
+pub anchor-before : (k : ℕ) → (suc k % 1024 ≡ 0 → ⊥) → anchorIndex (suc k) ≡ anchorIndex k
 unfolding anchorIndex
 anchor-before k h = omega arith
 

@@ -1,4 +1,5 @@
 pub mod Indices
+pub mod Same
 pub mod Laws
 pub mod Progress
 pub mod Visit

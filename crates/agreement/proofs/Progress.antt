@@ -1,7 +1,7 @@
 -- One record of the walk, both ways, and where the walk stands.
 -- Assumes nothing.
 use mathlib.Core.Path.{_≡_, refl, sym, ap, _∙_}
-use mathlib.Core.List.{List, _∷_}
+use mathlib.Core.List.{List}
 use mathlib.Core.Bool.{Bool, true, false}
 use mathlib.Core.Logic.{_↔_}
 use Prim.Native.Nat.{ℕ, suc, _+_, _<_, _≤_}
@@ -45,14 +45,14 @@ module _ (t : Inputs) where
 
   -- questions 14 and 15 of a record
   pub record Limited (e : Entry) : Type 0 where
-    pub key : length (e .key) ≤ maxKeyBytes
-    pub value : e .size ≤ maxValueBytes
+    pub key : length (e .key) ≤ 1048576
+    pub value : e .size ≤ 16777216
     pub scratch : length (e .key) ≤ half
 
   -- a record passes if it is within the limits and its visit goes on
   pub record-passed : (p q : Progress) (e : Entry) → entryAsked t p e ≡ given q
       → Limited e × ((d : Cursor) × (visitOf s o end (p .cursor) (p .previous) e (valueOf «data» e) ≡ visited.Went d) × (behind p e d ≡ q))
-  unfolding entryAsked withinLimits
+  unfolding entryAsked withinLimits maxKeyBytes maxValueBytes
   record-passed p q e r =
       let w₁ = reached-first _ _ 14 q r in
       let w₂ = reached-first _ _ 15 q (w₁ .1) in
@@ -61,7 +61,7 @@ module _ (t : Inputs) where
 
   pub passed-record : (p : Progress) (e : Entry) (d : Cursor) → Limited e → visitOf s o end (p .cursor) (p .previous) e (valueOf «data» e) ≡ visited.Went d
       → entryAsked t p e ≡ given (behind p e d)
-  unfolding entryAsked withinLimits progressFor
+  unfolding entryAsked withinLimits maxKeyBytes maxValueBytes progressFor
   passed-record p e d l v =
       if-true _ _ _ (true-both _ _ (le-leb _ _ (l .key)) (le-leb _ _ (l .value)))
       ∙ if-true _ _ _ (le-leb _ _ (l .scratch))

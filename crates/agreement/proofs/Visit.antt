@@ -1,10 +1,10 @@
 -- One visit of the arena, both ways: a cursor that stands before a key, or among its versions, goes on exactly if the facts of that
 -- key and that version hold.
 -- Assumes nothing.
-use mathlib.Core.Path.{_≡_, refl, sym, ap, ap₂, _∙_, subst}
+use mathlib.Core.Path.{_≡_, refl, sym, ap, ap₂, _∙_, subst, subst⁻¹}
 use mathlib.Core.List.{List, _++_}
 use mathlib.Core.Bool.{Bool, true, not}
-use Prim.Native.Nat.{ℕ, zero, suc, _+_, _*_, _-_, _%_, _<_, _≤_}
+use Prim.Native.Nat.{ℕ, zero, suc, _+_, _*_, _-_, _%_, _^_, _<_, _≤_}
 use native.Mathlib.Omega.{arith}
 use lib.Dec.{eqb}
 use lib.ListN.{take, drop}
@@ -13,8 +13,8 @@ use Rattle.num.specs.Choice.{if_then_else_, both, either}
 use Rattle.num.specs.Number.{leAt}
 use Rattle.num.specs.Order.{lessThan}
 use Rattle.num.proofs.Choice.{both-true, true-both, if-case, if-first, if-true, if-false, either-second, second-either}
-use Rattle.num.proofs.Order.{equalBytes-true, equalBytes-same}
 use Rattle.crc32.specs.V42.{crcOf}
+use Rattle.sstable.specs.Limits.{maxKeyBytes}
 use Rattle.block.specs.Walk.{Entry}
 use Rattle.point.specs.Hash.{hashOf, fingerprintOf}
 use Rattle.encoding.specs.Encoding.{scanHeaderLen, group, keyHeaderLenOf, versionLenOf}
@@ -24,18 +24,19 @@ use Rattle.arena.specs.declared.Visited.{Visited}
 use Rattle.arena.specs.declared.Visited.the-variants.{Went, Refused}
 use Rattle.arena.specs.Key.{keyHeaderAt, atAnchor, suffixAddress, anchorOf, anchorLenOf, keyInside, keyFits, keyRises, scanNames, slotPlace, slotNames, prefixChanges, entered, keyFor, keyOf}
 use Rattle.versions.specs.Version.{storedKey, storedSeq, storedValue, kindIn, lengthIn, storedOffset, storedChecksum, versionAgrees, checksumAgrees, advanced, versionFor, visitOf}
-use Rattle.versions.proofs.Agreeing.{sameKind-true, sameKind-same}
-use Rattle.agreement.specs.Keys.{addressOf, keyHeaderOf, versionCount, suffixPlace, anchorIndex, keyAt, versionPlace, versionSeq, versionKind, versionLength, versionOffset, versionChecksum, prefixAt, prefixNew, prefixCount}
+use Rattle.versions.proofs.Agreeing.{agreeing, agrees}
+use Rattle.agreement.specs.Keys.{addressOf, keyHeaderOf, versionCount, suffixPlace, anchorIndex, keyAt, versionPlace, versionSeq, versionChecksum, prefixAt, prefixNew, prefixCount}
 use Rattle.agreement.specs.Agrees.{KeyStands, SameVersion}
 use Rattle.agreement.proofs.Indices.{anchor-self, anchor-before, versions-behind}
+use Rattle.agreement.proofs.Same.{seq-is, kind-is, length-is, offset-is, checksum-is}
 
 -- the cursor stands before key k
 pub record Before (s : List ℕ) (o : Opened) (k : ℕ) (c : Cursor) : Type 0 where
   pub pos : c .pos ≡ o .arena + addressOf s o k
   pub groups : c .groups ≡ k
   pub remaining : c .remaining ≡ 0
-  pub anchor : (k % group ≡ 0 → ⊥) → c .anchor ≡ addressOf s o (anchorIndex k) + keyHeaderLenOf (o .encoding)
-  pub anchor-len : (k % group ≡ 0 → ⊥) → c .«anchor_len» ≡ keyHeaderOf s o (anchorIndex k) .«suffix_len»
+  pub anchor : (k % 1024 ≡ 0 → ⊥) → c .anchor ≡ addressOf s o (anchorIndex k) + keyHeaderLenOf (o .encoding)
+  pub anchor-len : (k % 1024 ≡ 0 → ⊥) → c .«anchor_len» ≡ keyHeaderOf s o (anchorIndex k) .«suffix_len»
 
 -- the cursor stands before version j of key k, whose key header it has passed
 pub record Within (s : List ℕ) (o : Opened) (k j : ℕ) (c : Cursor) : Type 0 where
@@ -90,7 +91,7 @@ module _ (s : List ℕ) (o : Opened) (k : ℕ) (c : Cursor) (b : Before s o k c)
 
   module _ (end : ℕ) where
     stands : keyInside o end c ≡ true → keyFits o end c (keyHeaderOf s o k) ≡ true → (k < o .count) × KeyStands s o end k
-    unfolding keyInside keyFits suffixPlace versionCount atAnchor
+    unfolding keyInside keyFits suffixPlace versionCount atAnchor maxKeyBytes
     stands i f =
         let p = b .pos in
         let g = b .groups in
@@ -132,7 +133,7 @@ module _ (s : List ℕ) (o : Opened) (k : ℕ) (c : Cursor) (b : Before s o k c)
         true-both _ _ (lt-ltb _ _ m) (le-leb _ _ i)
 
     fits : KeyStands s o end k → keyFits o end c (keyHeaderOf s o k) ≡ true
-    unfolding keyFits suffixPlace versionCount atAnchor
+    unfolding keyFits suffixPlace versionCount atAnchor maxKeyBytes
     fits f =
         let p = b .pos in
         let g = b .groups in
@@ -311,50 +312,50 @@ module _ (s : List ℕ) (o : Opened) (k j : ℕ) (c : Cursor) (w : Within s o k 
       λ i. take (w .shared i) (drop (x i) s) ++ take (w .suffix-len i) (drop (w .suffix i) s)
 
   asked-version : (e : Entry) (value : List ℕ) → versionAgrees s o c e ≡ true → checksumAgrees s o c value ≡ true → VersionAsked s o k j e value
-  unfolding versionAgrees checksumAgrees versionSeq versionKind versionLength versionOffset versionChecksum
+  unfolding checksumAgrees
   asked-version e value f g =
-      let b₁ = both-true _ _ f in
-      let b₂ = both-true _ _ (b₁ .1) in
-      let b₃ = both-true _ _ (b₂ .1) in
-      let b₄ = both-true _ _ (b₃ .1) in
-      let b₅ = both-true _ _ (b₄ .1) in
+      let a = agreeing s o c e f in
+      let q = ap (storedSeq s o) (w .pos) ∙ sym (seq-is s o k j) in
       record {
         same =
             record {
-              key = equalBytes-true _ _ (b₁ .0) ∙ key-is;
-              seq = sym (eqb-true _ _ (b₃ .0)) ∙ ap (storedSeq s o) (w .pos);
-              kind = sym (sameKind-true _ _ (b₄ .0)) ∙ ap (λ (p : ℕ). kindIn o (storedValue s o p)) (w .pos);
-              size = sym (eqb-true _ _ (b₅ .0)) ∙ ap (λ (p : ℕ). lengthIn o (storedValue s o p)) (w .pos);
-              place = sym (eqb-true _ _ (b₅ .1)) ∙ ap (storedOffset s o) (w .pos);
+              key = a .key ∙ key-is;
+              seq = sym (a .seq) ∙ q;
+              sum = subst (λ (n : ℕ). n < 2 ^ 64) q (a .sum);
+              kind = sym (a .kind) ∙ ap (λ (p : ℕ). kindIn o (storedValue s o p)) (w .pos) ∙ sym (kind-is s o k j);
+              size = sym (a .size) ∙ ap (λ (p : ℕ). lengthIn o (storedValue s o p)) (w .pos) ∙ sym (length-is s o k j);
+              place = sym (a .place) ∙ ap (storedOffset s o) (w .pos) ∙ sym (offset-is s o k j);
             };
         falls = λ i q.
-            let n : e .seq < c .«last_seq» = ltb-true _ _ (either-second _ _ (b₂ .0) (w .first ∙ ne-eqb j 0 (λ z. omega arith))) in
+            let n = a .falls (w .first ∙ ne-eqb j 0 (λ z. omega arith)) in
             let l = w .last-seq i q in omega arith;
-        checksum = λ t. ap (storedChecksum s o) (sym (w .pos)) ∙ eqb-true _ _ (either-second _ _ g (ap not t));
+        checksum = λ t.
+            checksum-is s o k j ∙ ap (storedChecksum s o) (sym (w .pos)) ∙ eqb-true _ _ (either-second _ _ g (ap not t));
       }
 
   version-agrees : (e : Entry) (value : List ℕ) → VersionAsked s o k j e value → versionAgrees s o c e ≡ true
-  unfolding versionAgrees versionSeq versionKind versionLength versionOffset
   version-agrees e value a =
       let f = a .same in
-      true-both _ _ (equalBytes-same _ _ (f .key ∙ sym key-is))
-      (true-both _ _
-      (second-either _ _
-      (λ t.
-      let z = eqb-false j 0 (sym (w .first) ∙ t) in
-      let q : j ≡ suc (j - 1) = omega arith in
-      let n = a .falls (j - 1) q in
-      let l = w .last-seq (j - 1) q in
-      let m : e .seq < c .«last_seq» = omega arith in
-      lt-ltb _ _ m))
-      (true-both _ _ (eq-eqb _ _ (ap (storedSeq s o) (w .pos) ∙ sym (f .seq)))
-      (true-both _ _ (sameKind-same _ _ (ap (λ (p : ℕ). kindIn o (storedValue s o p)) (w .pos) ∙ sym (f .kind)))
-      (true-both _ _ (eq-eqb _ _ (ap (λ (p : ℕ). lengthIn o (storedValue s o p)) (w .pos) ∙ sym (f .size)))
-      (eq-eqb _ _ (ap (storedOffset s o) (w .pos) ∙ sym (f .place)))))))
+      let q = ap (storedSeq s o) (w .pos) ∙ sym (seq-is s o k j) in
+      agrees s o c e
+      (record {
+        key = f .key ∙ sym key-is;
+        falls = λ t.
+            let z = eqb-false j 0 (sym (w .first) ∙ t) in
+            let i : j ≡ suc (j - 1) = omega arith in
+            let n = a .falls (j - 1) i in
+            let l = w .last-seq (j - 1) i in omega arith;
+        seq = q ∙ sym (f .seq);
+        sum = subst⁻¹ (λ (n : ℕ). n < 2 ^ 64) q (f .sum);
+        kind = ap (λ (p : ℕ). kindIn o (storedValue s o p)) (w .pos) ∙ sym (kind-is s o k j) ∙ sym (f .kind);
+        size = ap (λ (p : ℕ). lengthIn o (storedValue s o p)) (w .pos) ∙ sym (length-is s o k j) ∙ sym (f .size);
+        place = ap (storedOffset s o) (w .pos) ∙ sym (offset-is s o k j) ∙ sym (f .place);
+      })
 
   checksum-agrees : (e : Entry) (value : List ℕ) → VersionAsked s o k j e value → checksumAgrees s o c value ≡ true
-  unfolding checksumAgrees versionChecksum
-  checksum-agrees e value a = second-either _ _ (λ t. eq-eqb _ _ (ap (storedChecksum s o) (w .pos) ∙ a .checksum (not-false _ t)))
+  unfolding checksumAgrees
+  checksum-agrees e value a =
+      second-either _ _ (λ t. eq-eqb _ _ (ap (storedChecksum s o) (w .pos) ∙ sym (checksum-is s o k j) ∙ a .checksum (not-false _ t)))
 
 -- ---- one visit
 

@@ -1,10 +1,10 @@
 -- The walk over the records goes through, and ends with the arena, exactly if the records agree with it.
 -- Assumes nothing.
-use mathlib.Core.Path.{_≡_, refl, sym, ap, _∙_, subst, subst₂}
+use mathlib.Core.Path.{_≡_, refl, sym, ap, _∙_, subst, subst⁻¹, subst₂}
 use mathlib.Core.List.{List, [], _∷_}
 use mathlib.Core.Bool.{Bool, true, false}
 use mathlib.Core.Logic.{_↔_}
-use Prim.Native.Nat.{ℕ, suc, _+_, _<_, _≤_}
+use Prim.Native.Nat.{ℕ, suc, _+_, _/_, _<_, _≤_}
 use native.Mathlib.Omega.{arith}
 use lib.Dec.{eqb}
 use lib.ListN.{length, drop}
@@ -15,17 +15,20 @@ use Rattle.num.specs.Order.{lessThan}
 use Rattle.num.proofs.Choice.{if-true, if-false}
 use Rattle.num.proofs.Steps.{first-or-later}
 use Rattle.block.specs.Walk.{Entry}
+use Rattle.header.specs.declared.Opened.{Opened}
 use Rattle.arena.specs.declared.Cursor.{Cursor}
 use Rattle.arena.specs.declared.Visited.the-variants.{Went}
+use Rattle.arena.specs.Key.{slotPlace}
 use Rattle.versions.specs.Version.{advanced, visitOf}
 use Rattle.num.specs.Answer.{given}
 use Rattle.validate.specs.Walk.{Inputs, valueOf, Progress, entryAsked, entriesFrom}
-use Rattle.opening.specs.Open.{startOf, endsTogether, prefixesCounted}
+use Rattle.opening.specs.Open.{startOf, endsTogether, prefixesCounted, inputsOf}
 use Rattle.validate.proofs.Entries.{entries-passed, passed-entries}
-use Rattle.agreement.specs.Keys.{addressOf, versionCount, keyAt, firstVersion, versionSeq, prefixCount}
-use Rattle.agreement.specs.Agrees.{noEntry, entryAt, Agrees}
+use Rattle.agreement.specs.Keys.{addressOf, versionCount, keyAt, keyHash, keySlot, firstVersion, versionSeq, prefixCount}
+use Rattle.agreement.specs.Agrees.{noEntry, entryAt, KeyStands, Agrees}
 use Rattle.agreement.specs.Internal.{Walked}
 use Rattle.agreement.proofs.Indices.{version-before, same-version}
+use Rattle.agreement.proofs.Same.{end-is, slot-is}
 use Rattle.agreement.proofs.Visit.{Before, Within, Counted, KeyAsked, VersionAsked, behindFirst, key-visit, visit-key, key-behind, version-visit, visit-version, version-behind}
 use Rattle.agreement.proofs.Progress.{behind, Limited, record-passed, passed-record, Stands, before, within, settled, start-stands, start-counted, ends-exactly, prefixes-exactly}
 
@@ -260,42 +263,58 @@ module _ (t : Inputs) (es : List Entry) where
         let z = backward rest (suc r) (n .keys) (n .progress) (i .1) (omega arith) (n .few) (n .stands) (n .counted) in
         (z .0, passed-entries t p (n .progress) (z .0) e rest (n .asked) (z .1), z .2)
 
-  -- ---- all facts, by question
+-- ---- all facts, by question
 
-  left-agrees : Left 0 0 → Agrees t es
+module _ (s «data» : List ℕ) (scratch : ℕ) (o : Opened) (es : List Entry) where
+  t : Inputs
+  t = inputsOf s «data» scratch o
+
+  -- the address and the fingerprint in a key's slot
+  slot-holds : (k : ℕ) → leAt s (keySlot s o k) (o .encoding .address) ≡ leAt s (slotPlace s o (keyHash s o k)) (o .encoding .address)
+  slot-holds k = ap (λ (p : ℕ). leAt s p (o .encoding .address)) (slot-is s o k)
+
+  slot-marks : (k : ℕ) → leAt s (keySlot s o k + o .encoding .address) 2 ≡ leAt s (slotPlace s o (keyHash s o k) + o .encoding .address) 2
+  slot-marks k = ap (λ (p : ℕ). leAt s (p + o .encoding .address) 2) (slot-is s o k)
+
+  left-agrees : Left t es 0 0 → Agrees s «data» scratch o es
+  unfolding t inputsOf keyHash
   left-agrees f =
       record {
         key-limit = λ r h. f .limits r (omega arith) h .key;
         value-limit = λ r h. f .limits r (omega arith) h .value;
-        scratch = λ r h. f .limits r (omega arith) h .scratch;
-        keys = λ k h. f .keys k (omega arith) h .stands;
+        scratch-half = λ r h. let l : length (entryAt es r .key) ≤ scratch / 2 = f .limits r (omega arith) h .scratch in omega arith;
+        keys = λ k h. subst⁻¹ (λ (end : ℕ). KeyStands s o end k) (end-is s o) (f .keys k (omega arith) h .stands);
         rising = λ k h. f .keys (suc k) (omega arith) h .rises k refl;
         scanned = λ n k h. f .keys k (omega arith) h .scanned n;
-        slot-address = λ k h. f .keys k (omega arith) h .slot-address;
-        slot-fingerprint = λ k h. f .keys k (omega arith) h .slot-fingerprint;
+        slot-address = λ k h. slot-holds k ∙ f .keys k (omega arith) h .slot-address;
+        slot-fingerprint = λ k h. slot-marks k ∙ f .keys k (omega arith) h .slot-fingerprint;
         versions = λ k j h l. f .versions k j h l (omega arith) .same;
         falling = λ k j h l.
             let v = f .versions k (suc j) h l (omega arith) in
             let e = v .same .seq in
             let g = v .falls j refl in omega arith;
         checksums = λ c k j h l. f .versions k j h l (omega arith) .checksum c;
-        arena-end = f .arena-end;
+        arena-end = f .arena-end ∙ sym (end-is s o);
         records-end = f .records-end;
         prefixes = f .prefixes;
       }
 
-  agrees-left : Agrees t es → Left 0 0
+  agrees-left : Agrees s «data» scratch o es → Left t es 0 0
+  unfolding t inputsOf keyHash
   agrees-left a =
       record {
-        limits = λ r _ h. record { key = a .key-limit r h; value = a .value-limit r h; scratch = a .scratch r h };
+        limits = λ r _ h.
+            let l = a .scratch-half r h in
+            let m : length (entryAt es r .key) ≤ scratch / 2 = omega arith in
+            record { key = a .key-limit r h; value = a .value-limit r h; scratch = m };
         keys = λ k _ h.
             record {
               below = h;
-              stands = a .keys k h;
+              stands = subst (λ (end : ℕ). KeyStands s o end k) (end-is s o) (a .keys k h);
               rises = λ i q. subst (λ (x : ℕ). lessThan (keyAt s o i) (keyAt s o x) ≡ true) (sym q) (a .rising i (subst (λ (x : ℕ). x < o .count) q h));
               scanned = λ n. a .scanned n k h;
-              slot-address = a .slot-address k h;
-              slot-fingerprint = a .slot-fingerprint k h;
+              slot-address = sym (slot-holds k) ∙ a .slot-address k h;
+              slot-fingerprint = sym (slot-marks k) ∙ a .slot-fingerprint k h;
             };
         versions = λ k j h l _.
             record {
@@ -306,39 +325,44 @@ module _ (t : Inputs) (es : List Entry) where
                   let z = ap (versionSeq s o k) q in omega arith;
               checksum = λ c. a .checksums c k j h l;
             };
-        arena-end = a .arena-end;
+        arena-end = a .arena-end ∙ end-is s o;
         records-end = a .records-end;
         prefixes = a .prefixes;
       }
 
-  walked-agrees : Walked t es → Agrees t es
+  walked-agrees : Walked t es → Agrees s «data» scratch o es
+  unfolding t inputsOf
   walked-agrees w =
       left-agrees
-      (forward es 0 0 (startOf o) (w .last) refl (omega arith) (start-stands t) (start-counted t) (w .through)
+      (forward t es es 0 0 (startOf o) (w .last) refl (omega arith) (start-stands t) (start-counted t) (w .through)
       (record { at-end = w .at-end; none-left = w .none-left; all-keys = w .all-keys; counted = w .counted }))
 
-  agrees-walked : Agrees t es → Walked t es
+  agrees-walked : Agrees s «data» scratch o es → Walked t es
+  unfolding t inputsOf
   agrees-walked a =
-      let z = backward (agrees-left a) es 0 0 (startOf o) refl (omega arith) (omega arith) (start-stands t) (start-counted t) in
+      let z = backward t es (agrees-left a) es 0 0 (startOf o) refl (omega arith) (omega arith) (start-stands t) (start-counted t) in
       record { last = z .0; through = z .1; at-end = z .2 .at-end; none-left = z .2 .none-left; all-keys = z .2 .all-keys; counted = z .2 .counted }
 
   -- the walk over the records goes through, and ends with the arena and its keys, exactly if the records agree with the arena
-  pub walked-exactly : Walked t es ↔ Agrees t es
+  pub walked-exactly : Walked (inputsOf s «data» scratch o) es ↔ Agrees s «data» scratch o es
+  unfolding t
   walked-exactly = (walked-agrees, agrees-walked)
 
   -- the same with the tests of questions 22 and 23, where the pairs end at a place of the data
   pub accepted-exactly : (at : ℕ)
-      → ((q : Progress) × (entriesFrom t (startOf o) es ≡ given q) × (endsTogether t at (q .cursor) ≡ true) × (prefixesCounted t (q .cursor) ≡ true))
-      ↔ ((at ≡ length «data») × Agrees t es)
+      → ((q : Progress) × (entriesFrom (inputsOf s «data» scratch o) (startOf o) es ≡ given q)
+      × (endsTogether (inputsOf s «data» scratch o) at (q .cursor) ≡ true) × (prefixesCounted (inputsOf s «data» scratch o) (q .cursor) ≡ true))
+      ↔ ((at ≡ length «data») × Agrees s «data» scratch o es)
+  unfolding t inputsOf
   accepted-exactly at = (to, from)
     where
       to : (q : Progress) × (entriesFrom t (startOf o) es ≡ given q) × (endsTogether t at (q .cursor) ≡ true) × (prefixesCounted t (q .cursor) ≡ true)
-          → (at ≡ length «data») × Agrees t es
+          → (at ≡ length «data») × Agrees s «data» scratch o es
       to w =
           let e = ends-exactly t at (w .0 .cursor) .0 (w .2) in
           (e .0, walked-agrees (record { last = w .0; through = w .1; at-end = e .1; none-left = e .2; all-keys = e .3; counted = w .3 }))
 
-      from : (at ≡ length «data») × Agrees t es
+      from : (at ≡ length «data») × Agrees s «data» scratch o es
           → (q : Progress) × (entriesFrom t (startOf o) es ≡ given q) × (endsTogether t at (q .cursor) ≡ true) × (prefixesCounted t (q .cursor) ≡ true)
       from h =
           let w = agrees-walked (h .1) in

@@ -110,7 +110,7 @@ linker-holds (openedPlain c z) =
     let x = plain-left c z in (
       x .opened,
       record {
-        store = record { accepted = plainOpening (c .lent .scratch) (x .accepted); data-bytes = c .lent .data-bytes };
+        store = plainOpening (c .lent .scratch) (x .accepted);
         numbers = x .numbers;
       },
     )
@@ -119,11 +119,7 @@ linker-holds (openedPacked c z) =
       x .opened,
       record {
         store =
-            record {
-              accepted =
-                  packedOpening (c .lent .section) (c .lent .scratch) (length (c .output)) (x .accepted ∙ ap (packedAs (x .opened)) (sym (first-bytes c x)));
-              data-bytes = c .lent .data-bytes;
-            };
+            packedOpening (c .lent .section) (c .lent .scratch) (length (c .output)) (x .accepted ∙ ap (packedAs (x .opened)) (sym (first-bytes c x)));
         numbers = x .numbers;
       },
     )

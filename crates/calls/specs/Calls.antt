@@ -7,7 +7,7 @@ use Prim.Native.Nat.{ℕ, _+_, _*_, _-_, _/_, _%_, _≤_}
 use lib.Dec.{eqb}
 use lib.ListN.{length, getD, take, drop}
 use Rattle.num.specs.Choice.{if_then_else_}
-use Rattle.num.specs.Number.{Bytes, leAt}
+use Rattle.num.specs.Number.{leAt}
 use Rattle.crc32.specs.V42.{crcOf}
 use Rattle.sstable.specs.declared.Kind.the-variants.{Put, Tombstone}
 use Rattle.header.specs.Header.{headerNumber}
@@ -33,8 +33,6 @@ pub record Lent : Type 0 where
   pub backing : List ℕ
   pub blocks : List ℕ
   pub scratch : ℕ
-  -- the data are lent as `&[u8]`, so they are bytes; this enters here and nowhere else
-  pub data-bytes : Bytes backing
 
 -- a call of `kiban_open`, with any sixteen numbers in its places before
 pub record OpenCall : Type 0 where

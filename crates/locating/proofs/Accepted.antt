@@ -12,7 +12,7 @@ use Rattle.admission.specs.Admits.{OpensExactly, PacksExactly}
 use Rattle.admission.proofs.Opening.{open-exactly}
 use Rattle.admission.proofs.PackedOpening.{open-packed-exactly, fits-pass}
 use Rattle.lookup.specs.Lookup.{noLimit}
-use Rattle.locating.specs.Store.{LinkerStore, AcceptedBy, plainOpening, packedOpening, Store, Version, Holds}
+use Rattle.locating.specs.Store.{LinkerStore, Store, plainOpening, packedOpening, Version, Holds}
 use Rattle.locating.specs.Looks.{LooksExactly}
 use Rattle.locating.proofs.Indexed.{Indexed}
 use Rattle.locating.proofs.Plain.{plain-indexed}
@@ -23,17 +23,14 @@ use Rattle.locating.proofs.Core.{indexed-looks}
 -- a lookup can count on an accepted store
 store-indexed : (t : LinkerStore) → Store t → Indexed (t .bytes) (t .opened) (t .backing) (storeEntries (t .backing) (t .blocks))
 unfolding OpensExactly PacksExactly
-store-indexed t st = go (st .accepted)
-  where
-    go : AcceptedBy t → Indexed (t .bytes) (t .opened) (t .backing) (storeEntries (t .backing) (t .blocks))
-    go (plainOpening scratch e) =
-        plain-indexed (t .bytes) (t .backing) (t .blocks) scratch (t .opened) (st .data-bytes) (open-exactly (t .bytes) (t .backing) (t .blocks) scratch (t .opened) .0 e)
-    go (packedOpening section scratch room e) =
-        let f = open-packed-exactly section (t .backing) (t .blocks) scratch room (t .opened) (t .bytes) .0 e in
-        let a = f .admits in
-        let x = packed-indexed section (t .backing) (t .blocks) scratch (f .plain) (st .data-bytes) (a .admits) (fits-pass (f .plain) (a .checksums) (a .few)) (a .pilots) in
-        subst (λ (s : List ℕ). Indexed s (t .opened) (t .backing) (storeEntries (t .backing) (t .blocks))) (sym (f .same-bytes))
-        (subst (λ (o : Opened). Indexed (packedBytes section (f .plain)) o (t .backing) (storeEntries (t .backing) (t .blocks))) (sym (f .same-record)) x)
+store-indexed t (plainOpening scratch e) =
+    plain-indexed (t .bytes) (t .backing) (t .blocks) scratch (t .opened) (open-exactly (t .bytes) (t .backing) (t .blocks) scratch (t .opened) .0 e)
+store-indexed t (packedOpening section scratch room e) =
+    let f = open-packed-exactly section (t .backing) (t .blocks) scratch room (t .opened) (t .bytes) .0 e in
+    let a = f .admits in
+    let x = packed-indexed section (t .backing) (t .blocks) scratch (f .plain) (a .admits) (fits-pass (f .plain) (a .checksums) (a .few)) (a .pilots) in
+    subst (λ (s : List ℕ). Indexed s (t .opened) (t .backing) (storeEntries (t .backing) (t .blocks))) (sym (f .same-bytes))
+    (subst (λ (o : Opened). Indexed (packedBytes section (f .plain)) o (t .backing) (storeEntries (t .backing) (t .blocks))) (sym (f .same-record)) x)
 
 -- a lookup in an accepted store, plain or packed, is none exactly if no version of the key is within the limit, and otherwise the one of
 -- greatest sequence (P3)
@@ -48,5 +45,5 @@ no-limit t st v h =
     let y = listed t x v h in
     let e : v .seq ≡ versionSeq (t .bytes) (t .opened) (y .key) (y .version) =
     ap (λ (u : Version). u .seq) (sym (y .same)) ∙ version-seq t x (y .key) (y .version) (y .key-below) (y .version-below) in
-    let b = x .sums (y .key) (y .version) (y .key-below) (y .version-below) in
+    let b = x .versions (y .key) (y .version) (y .key-below) (y .version-below) .sum in
     omega arith

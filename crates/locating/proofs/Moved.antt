@@ -3,49 +3,46 @@
 use mathlib.Core.Path.{_≡_, refl, ap, ap₂, _∙_}
 use mathlib.Core.List.{List, _++_}
 use mathlib.Core.Bool.{true}
-use Prim.Native.Nat.{ℕ, zero, suc, _+_, _*_, _-_, _<_, _≤_}
+use Prim.Native.Nat.{ℕ, zero, suc, _+_, _*_, _-_, _%_, _<_, _≤_}
 use native.Mathlib.Omega.{arith}
+use lib.Dec.{leb}
 use lib.ListN.{take, drop}
+use Rattle.num.specs.Choice.{if_then_else_}
 use Rattle.num.specs.Number.{leAt}
 use Rattle.num.proofs.Choice.{if-true}
+use Rattle.sstable.specs.declared.Kind.the-variants.{Put, Tombstone}
 use Rattle.block.specs.Walk.{Entry}
 use Rattle.encoding.specs.Encoding.{keyHeaderLenOf, versionLenOf}
+use Rattle.header.specs.declared.Opened.{Opened}
 use Rattle.header.specs.Header.{packedRecord}
 use Rattle.arena.specs.declared.KeyHeader.{KeyHeader}
 use Rattle.arena.specs.Key.{keyHeaderAt}
-use Rattle.versions.specs.Version.{storedSeq, storedValue, kindIn, lengthIn, storedOffset, storedChecksum}
 use Rattle.num.proofs.Pieces.{leAt-parts}
-use Rattle.validate.specs.Walk.{Inputs}
-use Rattle.agreement.specs.Keys.{keyRecordLen, addressOf, keyHeaderOf, versionCount, suffixPlace, anchorIndex, keyAt, firstVersion, versionPlace, versionSeq, versionKind, versionLength, versionOffset, versionChecksum}
+use Rattle.agreement.specs.Keys.{keyRecordsEnd, keyRecordLen, addressOf, keyHeaderOf, versionCount, suffixPlace, anchorIndex, keyAt, firstVersion, versionPlace, versionSeq, topBit, markedLength, versionKind, versionLength, versionOffset, versionChecksum}
 use Rattle.agreement.specs.Agrees.{Agrees}
 use Rattle.agreement.proofs.Indices.{anchor-le}
 use Rattle.agreement.proofs.Laws.{shared-inside, version-inside}
 
--- every part of the arena of a store stands in w too, from the packed record's start on
-unfoldable pub ArenaKept : Inputs → List ℕ → Type 0
-ArenaKept t w =
-    (a n : ℕ) → t .opened .arena + a + n ≤ t .end
-    → take n (drop (packedRecord (t .opened) .arena + a) w) ≡ take n (drop (t .opened .arena + a) (t .section))
+-- every part of the arena of a section stands in w too, from the packed record's start on
+pub record ArenaKept (s : List ℕ) (o : Opened) (w : List ℕ) : Type 0 where
+  pub part : (a n : ℕ) → o .arena + a + n ≤ keyRecordsEnd s o → take n (drop (packedRecord o .arena + a) w) ≡ take n (drop (o .arena + a) s)
 
-module _ (t : Inputs) (w : List ℕ) (kept : ArenaKept t w) where
-  open Inputs t using (section as s, opened as o, end)
-
+module _ {s : List ℕ} {o : Opened} {w : List ℕ} (kept : ArenaKept s o w) where
   -- ---- at a place x of w and a place y of the section, as far from the two starts of the arena
 
   -- stand the same parts
-  part-same : (x y n : ℕ) → x + o .arena ≡ y + packedRecord o .arena → o .arena ≤ y → y + n ≤ end → take n (drop x w) ≡ take n (drop y s)
-  unfolding ArenaKept
+  part-same : (x y n : ℕ) → x + o .arena ≡ y + packedRecord o .arena → o .arena ≤ y → y + n ≤ keyRecordsEnd s o → take n (drop x w) ≡ take n (drop y s)
   part-same x y n e l b =
       let p : x ≡ packedRecord o .arena + (y - o .arena) = omega arith in
       let q : o .arena + (y - o .arena) ≡ y = omega arith in
-      ap (λ (k : ℕ). take n (drop k w)) p ∙ kept (y - o .arena) n (omega arith) ∙ ap (λ (k : ℕ). take n (drop k s)) q
+      ap (λ (k : ℕ). take n (drop k w)) p ∙ kept .part (y - o .arena) n (omega arith) ∙ ap (λ (k : ℕ). take n (drop k s)) q
 
   -- and the same numbers
-  number-same : (x y n : ℕ) → x + o .arena ≡ y + packedRecord o .arena → o .arena ≤ y → y + n ≤ end → leAt w x n ≡ leAt s y n
+  number-same : (x y n : ℕ) → x + o .arena ≡ y + packedRecord o .arena → o .arena ≤ y → y + n ≤ keyRecordsEnd s o → leAt w x n ≡ leAt s y n
   number-same x y n e l b = leAt-parts w s x y n (part-same x y n e l b)
 
   -- and key headers
-  header-same : (x y : ℕ) → x + o .arena ≡ y + packedRecord o .arena → o .arena ≤ y → y + keyHeaderLenOf (o .encoding) ≤ end
+  header-same : (x y : ℕ) → x + o .arena ≡ y + packedRecord o .arena → o .arena ≤ y → y + keyHeaderLenOf (o .encoding) ≤ keyRecordsEnd s o
       → keyHeaderAt w (o .encoding) x ≡ keyHeaderAt s (o .encoding) y
   unfolding keyHeaderAt keyHeaderLenOf
   header-same x y e l b =
@@ -59,35 +56,36 @@ module _ (t : Inputs) (w : List ℕ) (kept : ArenaKept t w) where
       }
 
   -- and versions
-  module _ (x y : ℕ) (e : x + o .arena ≡ y + packedRecord o .arena) (l : o .arena ≤ y) (b : y + versionLenOf (o .encoding) ≤ end) where
+  module _ (x y : ℕ) (e : x + o .arena ≡ y + packedRecord o .arena) (l : o .arena ≤ y) (b : y + versionLenOf (o .encoding) ≤ keyRecordsEnd s o) where
     -- the sequence
-    stored-seq : storedSeq w (packedRecord o) x ≡ storedSeq s o y
-    unfolding storedSeq packedRecord versionLenOf
-    stored-seq = ap (λ (n : ℕ). o .«min_seq» + n) (number-same x y (o .encoding .seq) e l (omega arith))
+    seq-number : leAt w x (o .encoding .seq) ≡ leAt s y (o .encoding .seq)
+    unfolding versionLenOf
+    seq-number = number-same x y (o .encoding .seq) e l (omega arith)
 
     -- the value length, with its top bit
-    stored-value : storedValue w (packedRecord o) x ≡ storedValue s o y
-    unfolding storedValue packedRecord versionLenOf
-    stored-value = number-same (x + o .encoding .seq) (y + o .encoding .seq) (o .encoding .value) (omega arith) (omega arith) (omega arith)
+    length-number : leAt w (x + o .encoding .seq) (o .encoding .value) ≡ leAt s (y + o .encoding .seq) (o .encoding .value)
+    unfolding versionLenOf
+    length-number = number-same (x + o .encoding .seq) (y + o .encoding .seq) (o .encoding .value) (omega arith) (omega arith) (omega arith)
 
     -- the value offset
-    stored-offset : storedOffset w (packedRecord o) x ≡ storedOffset s o y
-    unfolding storedOffset packedRecord versionLenOf
-    stored-offset =
+    offset-number : leAt w (x + o .encoding .seq + o .encoding .value) (o .encoding .address) ≡ leAt s (y + o .encoding .seq + o .encoding .value) (o .encoding .address)
+    unfolding versionLenOf
+    offset-number =
         number-same (x + o .encoding .seq + o .encoding .value) (y + o .encoding .seq + o .encoding .value) (o .encoding .address)
         (omega arith) (omega arith) (omega arith)
 
     -- the checksum, in an encoding with checksums
-    stored-checksum : o .encoding .checksum ≡ true → storedChecksum w (packedRecord o) x ≡ storedChecksum s o y
-    unfolding storedChecksum packedRecord versionLenOf
-    stored-checksum c =
+    checksum-number : o .encoding .checksum ≡ true
+        → leAt w (x + o .encoding .seq + o .encoding .value + o .encoding .address) 4 ≡ leAt s (y + o .encoding .seq + o .encoding .value + o .encoding .address) 4
+    unfolding versionLenOf
+    checksum-number c =
         let f = if-true {A = ℕ} (o .encoding .checksum) 4 0 c in
         number-same (x + o .encoding .seq + o .encoding .value + o .encoding .address) (y + o .encoding .seq + o .encoding .value + o .encoding .address) 4
         (omega arith) (omega arith) (omega arith)
 
   -- ---- by index: w has what the section has
 
-  module _ (es : List Entry) (a : Agrees t es) where
+  module _ {«data» : List ℕ} {scratch : ℕ} {es : List Entry} (a : Agrees s «data» scratch o es) where
     -- the key header at an address
     record-same : (k : ℕ) → k < o .count
         → keyHeaderAt w (o .encoding) (packedRecord o .arena + addressOf s o k) ≡ keyHeaderAt s (o .encoding) (o .arena + addressOf s o k)
@@ -152,30 +150,31 @@ module _ (t : Inputs) (w : List ℕ) (kept : ArenaKept t w) where
         let e = key-header-same k l in
         ap (λ (h : KeyHeader). take (h .shared) (drop (suffixPlace w (packedRecord o) (anchorIndex k)) w) ++ take (h .«suffix_len») (drop (suffixPlace w (packedRecord o) k) w)) e
         ∙ ap₂ (λ (u v : List ℕ). u ++ v)
-        (part-same _ _ (keyHeaderOf s o k .shared) (suffix-moved (anchorIndex k) n) (suffix-behind (anchorIndex k)) (shared-inside t es a k l))
+        (part-same _ _ (keyHeaderOf s o k .shared) (suffix-moved (anchorIndex k) n) (suffix-behind (anchorIndex k)) (shared-inside a k l))
         (part-same _ _ (keyHeaderOf s o k .«suffix_len») (suffix-moved k l) (suffix-behind k) (a .keys k l .suffix-inside))
 
     -- what is stored of a version
     module _ (k j : ℕ) (l : k < o .count) (b : j < versionCount s o k) where
       pub seq-same : versionSeq w (packedRecord o) k j ≡ versionSeq s o k j
-      unfolding versionSeq
-      seq-same = stored-seq _ _ (version-moved k j l) (version-behind k j) (version-inside t es a k j l b)
+      unfolding versionSeq packedRecord
+      seq-same = ap (λ (n : ℕ). o .«min_seq» + n) (seq-number _ _ (version-moved k j l) (version-behind k j) (version-inside a k j l b))
 
-      value-same : storedValue w (packedRecord o) (versionPlace w (packedRecord o) k j) ≡ storedValue s o (versionPlace s o k j)
-      value-same = stored-value _ _ (version-moved k j l) (version-behind k j) (version-inside t es a k j l b)
+      marked-same : markedLength w (packedRecord o) k j ≡ markedLength s o k j
+      unfolding markedLength packedRecord
+      marked-same = length-number _ _ (version-moved k j l) (version-behind k j) (version-inside a k j l b)
 
       pub kind-same : versionKind w (packedRecord o) k j ≡ versionKind s o k j
-      unfolding versionKind kindIn packedRecord
-      kind-same = ap (kindIn o) value-same
+      unfolding versionKind topBit packedRecord
+      kind-same = ap (λ (n : ℕ). if leb (topBit o) n then Tombstone else Put) marked-same
 
       pub length-same : versionLength w (packedRecord o) k j ≡ versionLength s o k j
-      unfolding versionLength lengthIn packedRecord
-      length-same = ap (lengthIn o) value-same
+      unfolding versionLength topBit packedRecord
+      length-same = ap (λ (n : ℕ). n % topBit o) marked-same
 
       pub offset-same : versionOffset w (packedRecord o) k j ≡ versionOffset s o k j
-      unfolding versionOffset
-      offset-same = stored-offset _ _ (version-moved k j l) (version-behind k j) (version-inside t es a k j l b)
+      unfolding versionOffset packedRecord
+      offset-same = offset-number _ _ (version-moved k j l) (version-behind k j) (version-inside a k j l b)
 
       pub checksum-same : o .encoding .checksum ≡ true → versionChecksum w (packedRecord o) k j ≡ versionChecksum s o k j
-      unfolding versionChecksum
-      checksum-same = stored-checksum _ _ (version-moved k j l) (version-behind k j) (version-inside t es a k j l b)
+      unfolding versionChecksum packedRecord
+      checksum-same = checksum-number _ _ (version-moved k j l) (version-behind k j) (version-inside a k j l b)

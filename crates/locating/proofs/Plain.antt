@@ -1,12 +1,12 @@
 -- An admitted section with its record is what a lookup counts on.
 -- Assumes nothing.
-use mathlib.Core.Path.{_≡_, ap, _∙_, subst}
+use mathlib.Core.Path.{_≡_, sym, ap, _∙_}
 use mathlib.Core.Bool.{false}
 use mathlib.Core.List.{List}
-use Prim.Native.Nat.{ℕ, _+_, _*_, _^_, _<_, _≤_}
+use Prim.Native.Nat.{ℕ, _+_, _*_, _<_, _≤_}
 use native.Mathlib.Omega.{arith}
 use lib.ListN.{length}
-use Rattle.num.specs.Number.{Bytes, leAt}
+use Rattle.num.specs.Number.{leAt}
 use Rattle.num.proofs.Choice.{if-false}
 use Rattle.point.specs.Hash.{bucketOf, slotOf}
 use Rattle.point.proofs.Slots.{bucket-lt, slot-lt}
@@ -17,13 +17,13 @@ use Rattle.header.proofs.Headers.{header-plain}
 use Rattle.opened.proofs.Records.{facts-record}
 use Rattle.header.proofs.Bounds.{buckets-range, pilot-inside, slot-inside, arena-end}
 use Rattle.arena.specs.Key.{pilotPlace, slotPlace}
-use Rattle.opening.specs.Open.{inputsOf}
-use Rattle.agreement.specs.Keys.{versionCount, firstVersion, versionSeq}
+use Rattle.agreement.specs.Keys.{keyHash, keySlot}
 use Rattle.agreement.specs.Agrees.{entryAt}
+use Rattle.agreement.proofs.Same.{end-is, slot-is}
 use Rattle.agreement.proofs.Laws.{address-names, key-names, sequences-fall, anchor-place, shared-inside, version-inside, version-listed, record-version, index-member}
 use Rattle.admission.specs.Blocks.{storeEntries}
 use Rattle.admission.specs.Admits.{PilotsInside, Admits}
-use Rattle.admission.proofs.Stored.{stored-entry, stored-seq}
+use Rattle.admission.proofs.Stored.{stored-entry}
 use Rattle.lookup.specs.Lookup.{pilotLen, pilotOffset, pilotOf, slotLen, slotOffset}
 use Rattle.locating.proofs.Indexed.{Indexed}
 
@@ -86,47 +86,39 @@ module _ (s : List ℕ) (o : Opened) (h : Header s o) where
         let l = arena-inside in
         omega arith
 
+-- the slot of a key is where the lookup of its hash finds it
+key-slot : (s : List ℕ) (o : Opened) → Header s o → (k : ℕ) → slotOffset s o (keyHash s o k) ≡ keySlot s o k
+key-slot s o h k = slot-place o (header-plain s o h) s (keyHash s o k) ∙ sym (slot-is s o k)
+
 -- ---- the store
 
--- a version's sequence is that of a record of the blocks
-seq-below : (s «data» blocks : List ℕ) (scratch : ℕ) (o : Opened) → Bytes «data» → Admits s «data» blocks scratch o
-    → (k j : ℕ) → k < o .count → j < versionCount s o k → versionSeq s o k j < 2 ^ 64
-unfolding inputsOf
-seq-below s «data» blocks scratch o b a k j h l =
-    let es = storeEntries «data» blocks in
-    let r = firstVersion s o k + j in
-    let n = version-listed (inputsOf s «data» scratch o) es (a .agrees) k j h l in
-    subst (λ (x : ℕ). x < 2 ^ 64) (a .agrees .versions k j h l .seq) (stored-seq «data» blocks b (entryAt es r) (index-member es r n))
-
 -- the records of the blocks are indexed
-pub plain-indexed : (s «data» blocks : List ℕ) (scratch : ℕ) (o : Opened) → Bytes «data» → Admits s «data» blocks scratch o
+pub plain-indexed : (s «data» blocks : List ℕ) (scratch : ℕ) (o : Opened) → Admits s «data» blocks scratch o
     → Indexed s o «data» (storeEntries «data» blocks)
-unfolding inputsOf
-plain-indexed s «data» blocks scratch o b a =
-    let t = inputsOf s «data» scratch o in
+plain-indexed s «data» blocks scratch o a =
     let es = storeEntries «data» blocks in
     let g = a .agrees in
-    let place = slot-place o (header-plain s o (a .header)) s in
+    let place = key-slot s o (a .header) in
     let e = arena-end s o (fromPlain (a .header)) in
+    let f = end-is s o in
     record {
       is-record = facts-record s o (fromPlain (a .header));
       pilot-inside = pilot-fits s o (a .header);
       slot-below = slot-found s o (a .header) (a .pilots);
       slot-inside = slot-fits s o (a .header) (a .pilots);
-      slot-address = λ k h. rw place (g .slot-address k h);
-      slot-fingerprint = λ _ k h. rw place (g .slot-fingerprint k h);
-      address-names = address-names t es g;
-      key-names = key-names t es g;
+      slot-address = λ k h. rw (place k) (g .slot-address k h);
+      slot-fingerprint = λ _ k h. rw (place k) (g .slot-fingerprint k h);
+      address-names = address-names g;
+      key-names = key-names g;
       header-inside = λ k h. let i = g .keys k h .header-inside in omega arith;
-      anchor-place = anchor-place t es g;
-      shared-inside = λ k h. let i = shared-inside t es g k h in omega arith;
+      anchor-place = anchor-place g;
+      shared-inside = λ k h. let i = shared-inside g k h in omega arith;
       suffix-inside = λ k h. let i = g .keys k h .suffix-inside in omega arith;
-      version-inside = λ k j h l. let i = version-inside t es g k j h l in omega arith;
+      version-inside = λ k j h l. let i = version-inside g k j h l in omega arith;
       versions = g .versions;
-      version-listed = version-listed t es g;
-      record-version = λ r h. let v = record-version t es g r h in (v .key, v .version, v .key-below, v .version-below, v .index);
-      falling = sequences-fall t es g;
-      sums = seq-below s «data» blocks scratch o b a;
+      version-listed = version-listed g;
+      record-version = λ r h. let v = record-version g r h in (v .key, v .version, v .key-below, v .version-below, v .index);
+      falling = sequences-fall g;
       values = λ r h. stored-entry «data» blocks (a .covers) (entryAt es r) (index-member es r h);
       checksums = g .checksums;
     }

@@ -16,7 +16,7 @@ use Rattle.point.specs.Hash.{hashOf, slotOf}
 use Rattle.encoding.specs.Encoding.{headerLen, keyHeaderLenOf}
 use Rattle.header.specs.declared.Opened.{Opened}
 use Rattle.arena.specs.declared.KeyHeader.{KeyHeader}
-use Rattle.agreement.specs.Keys.{addressOf, keyHeaderOf, versionCount, suffixPlace, keyAt, versionPlace}
+use Rattle.agreement.specs.Keys.{addressOf, keyHeaderOf, versionCount, suffixPlace, keyAt, keyHash, versionPlace}
 use Rattle.locator.specs.declared.Located.{Located}
 use Rattle.locator.specs.declared.Located.the-variants.{Missing, Refused}
 use Rattle.num.specs.Choice.{if_then_else_}
@@ -73,14 +73,9 @@ slot-place : (s : List ℕ) (o : Opened) (h g : ℕ) → slotIndex s o h ≡ slo
 unfolding slotOffset slotIndex
 slot-place s o h g e = ap (λ (i : ℕ). headerLen + pilotLen o * o .buckets + i * slotLen o) e
 
--- the hash of key k
-unfoldable keyHash : List ℕ → Opened → ℕ → ℕ
-keyHash s o k = hashOf (keyAt s o k) (o .seed)
-
 module _ (s : List ℕ) (o : Opened) («data» : List ℕ) (es : List Entry) (x : Indexed s o «data» es) where
   -- keys with one slot are one key
   slot-names : (k m : ℕ) → k < o .count → m < o .count → slotIndex s o (keyHash s o k) ≡ slotIndex s o (keyHash s o m) → k ≡ m
-  unfolding keyHash
   slot-names k m h l e =
       x .address-names k m h l
       (sym (x .slot-address k h)

@@ -16,8 +16,9 @@ use Rattle.encoding.specs.Encoding.{versionLenOf}
 use Rattle.header.specs.declared.Opened.{Opened}
 use Rattle.versions.specs.Version.{storedSeq}
 use Rattle.validate.specs.Walk.{valueOf}
-use Rattle.agreement.specs.Keys.{versionCount, keyAt, firstVersion, versionPlace, versionSeq, versionKind, versionLength, versionOffset, versionChecksum}
+use Rattle.agreement.specs.Keys.{versionCount, keyAt, firstVersion, versionPlace, versionSeq}
 use Rattle.agreement.specs.Agrees.{entryAt}
+use Rattle.agreement.proofs.Same.{seq-is, kind-is, length-is, offset-is, checksum-is}
 use Rattle.agreement.proofs.Laws.{member-index, index-member}
 use Rattle.admission.specs.Blocks.{storeEntries}
 use Rattle.admission.proofs.Stored.{StoredEntry}
@@ -94,7 +95,7 @@ answered-behind s o k limit j answer rest a e (first i w f) =
 module _ (s : List ℕ) (o : Opened) («data» : List ℕ) (es : List Entry) (x : Indexed s o «data» es) (k : ℕ) (h : k < o .count) (limit : ℕ) where
   -- the walk over the versions of key k from one on answers so
   pub answered : (count j : ℕ) → j + count ≡ versionCount s o k → Answered s o k limit j (versionsFrom count s o (versionPlace s o k j) limit)
-  unfolding versionsFrom versionSeq
+  unfolding versionsFrom versionSeq storedSeq
   answered zero j n = none (λ m p q. absurd (omega arith)) refl
   answered (suc count) j n = go (leb (versionSeq s o k j) limit) refl (answered count (suc j) (omega arith))
     where
@@ -106,11 +107,11 @@ module _ (s : List ℕ) (o : Opened) («data» : List ℕ) (es : List Entry) (x 
       go true e rest =
           let w : versionSeq s o k j ≤ limit = leb-true _ _ e in
           first j (record { below = l; within = w; earlier = λ m p q. absurd (omega arith) })
-          (version-met s o (versionPlace s o k j) limit count (x .version-inside k j h l) (x .sums k j h l) w)
+          (version-met s o (versionPlace s o k j) limit count (x .version-inside k j h l) (x .versions k j h l .sum) w)
       go false e rest =
           let a : limit < versionSeq s o k j = leb-false _ _ e in
           answered-behind s o k limit j _ _ a
-          (version-passed s o (versionPlace s o k j) limit count (x .version-inside k j h l) (x .sums k j h l) a
+          (version-passed s o (versionPlace s o k j) limit count (x .version-inside k j h l) (x .versions k j h l .sum) a
           ∙ ap (λ (p : ℕ). versionsFrom count s o p limit) (next-place s o k j))
           rest
 
@@ -158,18 +159,20 @@ module _ (t : LinkerStore) (x : Indexed (t .bytes) (t .opened) (t .backing) (sto
 
     -- what stands at its place answers it
     pub version-answers : Answers t (versionAt t k j) (locatorAt s o (versionPlace s o k j))
-    unfolding locatorAt versionAt versionIn versionSeq versionKind versionLength versionOffset versionChecksum
+    unfolding locatorAt versionAt versionIn
     version-answers =
         let e = entryAt (storeEntries «data» blocks) (firstVersion s o k + j) in
         let same = x .versions k j h l in
+        let offset = sym (same .place ∙ offset-is s o k j) in
+        let size = same .size ∙ length-is s o k j in
         let v = x .values (firstVersion s o k + j) (x .version-listed k j h l) in
         record {
-          kind = sym (same .kind);
-          seq = sym (same .seq);
-          len = sym (v .value-length ∙ same .size);
-          inside = ap₂ (valueNumber «data») (sym (same .place)) (sym (same .size)) ∙ value-number «data» e v;
-          value = ap₂ (valuePart «data») (sym (same .place)) (sym (same .size)) ∙ value-part «data» e v;
-          checksum = λ c. if-true _ _ _ c ∙ x .checksums c k j h l;
+          kind = sym (same .kind ∙ kind-is s o k j);
+          seq = sym (same .seq ∙ seq-is s o k j);
+          len = sym (v .value-length ∙ size);
+          inside = ap₂ (valueNumber «data») offset (sym size) ∙ value-number «data» e v;
+          value = ap₂ (valuePart «data») offset (sym size) ∙ value-part «data» e v;
+          checksum = λ c. if-true _ _ _ c ∙ sym (checksum-is s o k j) ∙ x .checksums c k j h l;
           no-checksum = λ c. if-false _ _ _ c;
         }
 

@@ -3,7 +3,6 @@
 use mathlib.Core.Path.{_≡_}
 use mathlib.Core.List.{List, List·Memᴰ, map}
 use Prim.Native.Nat.{ℕ, _≤_}
-use Rattle.num.specs.Number.{Bytes}
 use Rattle.sstable.specs.declared.Kind.{Kind}
 use Rattle.block.specs.Walk.{Entry}
 use Rattle.header.specs.declared.Opened.{Opened}
@@ -20,16 +19,11 @@ pub record LinkerStore : Type 0 where
   pub blocks : List ℕ
   pub opened : Opened
 
--- an opening accepted it: the plain opening these bytes, or the packed opening a section, which it wrote as these bytes
-pub data AcceptedBy (t : LinkerStore) : Type 0 where
-  plainOpening : (scratch : ℕ) → openOf (t .bytes) (t .backing) (t .blocks) scratch ≡ Accepted (t .opened) → AcceptedBy t
+-- an accepted store: the plain opening accepted these bytes, or the packed opening a section, which it wrote as these bytes
+pub data Store (t : LinkerStore) : Type 0 where
+  plainOpening : (scratch : ℕ) → openOf (t .bytes) (t .backing) (t .blocks) scratch ≡ Accepted (t .opened) → Store t
   packedOpening : (section : List ℕ) (scratch room : ℕ) → openPackedOf section (t .backing) (t .blocks) scratch room ≡ packedAs (t .opened) (t .bytes)
-      → AcceptedBy t
-
--- an accepted store, whose data are bytes
-pub record Store (t : LinkerStore) : Type 0 where
-  pub accepted : AcceptedBy t
-  pub data-bytes : Bytes (t .backing)
+      → Store t
 
 -- a version, as the blocks hold it
 pub record Version : Type 0 where

@@ -1,16 +1,16 @@
 -- Where the numbers of a version lie, and how large they are.
 -- Assumes nothing.
-use mathlib.Core.Path.{_≡_, refl, sym, ap, _∙_, subst⁻¹}
+use mathlib.Core.Path.{_≡_, ap, subst⁻¹}
 use mathlib.Core.List.{List}
 use mathlib.Core.Bool.{Bool, true, false}
-use Prim.Native.Nat.{ℕ, _+_, _*_, _-_, _<_, _≤_}
+use Prim.Native.Nat.{ℕ, _+_, _*_, _-_, _^_, _<_, _≤_}
 use native.Mathlib.Omega.{arith}
-use lib.Dec.{eqb}
+use lib.Dec.{eqb, ltb}
 use lib.ListN.{length}
-use borrow.Author.Tests.{eqb-true, eq-eqb, ne-eqb}
-use Rattle.num.specs.Choice.{if_then_else_}
+use borrow.Author.Tests.{eqb-true, eq-eqb, lt-ltb}
+use Rattle.num.specs.Choice.{if_then_else_, both}
 use Rattle.num.specs.Number.{Bytes, leAt}
-use Rattle.num.proofs.Choice.{same-truth}
+use Rattle.num.proofs.Choice.{never-true, same-truth, both-true, true-both}
 use Rattle.num.proofs.Number.{leAt-lt}
 use Rattle.encoding.specs.declared.Encoding.{Encoding}
 use Rattle.encoding.specs.Encoding.{Widths, versionLenOf, tombstoneOf}
@@ -18,21 +18,26 @@ use Rattle.encoding.proofs.Widths.{tombstone-double}
 use Rattle.header.specs.declared.Opened.{Opened}
 use Rattle.arena.specs.declared.Cursor.{Cursor}
 use Rattle.arena.specs.Internal.{Standing}
-use Rattle.versions.specs.Version.{storedSeq}
+use Rattle.versions.specs.Version.{storedSeq, seqAgrees}
 
 -- a sequence below the least never agrees
-pub seq-below : (s : List ℕ) (o : Opened) (pos seq : ℕ) → seq < o .«min_seq» → eqb (storedSeq s o pos) seq ≡ false
-unfolding storedSeq
-seq-below s o pos seq h = ne-eqb _ _ (λ (e : o .«min_seq» + leAt s pos (o .encoding .seq) ≡ seq). omega arith)
+pub seq-below : (s : List ℕ) (o : Opened) (pos seq : ℕ) → seq < o .«min_seq» → seqAgrees s o pos seq ≡ false
+unfolding seqAgrees storedSeq
+seq-below s o pos seq h =
+    never-true _ (λ t. let l = eqb-true (o .«min_seq» + leAt s pos (o .encoding .seq)) seq (both-true _ _ t .1) in
+    absurd {A = ⊥} (omega arith))
 
--- another agrees if the stored number is what it is above the least
-pub seq-less : (s : List ℕ) (o : Opened) (pos seq : ℕ) {n : ℕ} → o .«min_seq» ≤ seq → n ≡ leAt s pos (o .encoding .seq)
-    → eqb n (seq - o .«min_seq») ≡ eqb (storedSeq s o pos) seq
-unfolding storedSeq
-seq-less s o pos seq {n} h e =
-    same-truth (eqb n (seq - o .«min_seq»)) (eqb (o .«min_seq» + leAt s pos (o .encoding .seq)) seq)
-    (λ t. let l = eqb-true n (seq - o .«min_seq») t in eq-eqb (o .«min_seq» + leAt s pos (o .encoding .seq)) seq (omega arith))
-    (λ t. let l = eqb-true (o .«min_seq» + leAt s pos (o .encoding .seq)) seq t in eq-eqb n (seq - o .«min_seq») (omega arith))
+-- another, below 2^64, agrees if the stored number is what it is above the least
+pub seq-less : (s : List ℕ) (o : Opened) (pos seq : ℕ) {n : ℕ} → o .«min_seq» ≤ seq → seq < 2 ^ 64 → n ≡ leAt s pos (o .encoding .seq)
+    → eqb n (seq - o .«min_seq») ≡ seqAgrees s o pos seq
+unfolding seqAgrees storedSeq
+seq-less s o pos seq {n} h b e =
+    let sum = o .«min_seq» + leAt s pos (o .encoding .seq) in
+    same-truth (eqb n (seq - o .«min_seq»)) (both (ltb sum (2 ^ 64)) (eqb sum seq))
+    (λ t. let l = eqb-true n (seq - o .«min_seq») t in
+    let m : o .«min_seq» + leAt s pos (o .encoding .seq) ≡ seq = omega arith in
+    true-both _ _ (lt-ltb sum (2 ^ 64) (omega arith)) (eq-eqb sum seq m))
+    (λ t. let l = eqb-true (o .«min_seq» + leAt s pos (o .encoding .seq)) seq (both-true _ _ t .1) in eq-eqb n (seq - o .«min_seq») (omega arith))
 
 -- with checksums, the CRC-32 of a version lies in the section
 pub checksum-inside : (s : List ℕ) (o : Opened) (c : Cursor) → Standing s o c → o .encoding .checksum ≡ true

@@ -1,5 +1,5 @@
 -- A record beside the version at the cursor: questions 20 and 21.
-use Prim.Native.Nat.{ℕ, _+_, _-_, _%_}
+use Prim.Native.Nat.{ℕ, _+_, _-_, _%_, _^_}
 use mathlib.Core.List.{List, _++_}
 use mathlib.Core.Bool.{Bool, true, false, not}
 use lib.Dec.{eqb, leb, ltb}
@@ -51,13 +51,16 @@ sameKind Put Tombstone = false
 sameKind Tombstone Put = false
 sameKind Tombstone Tombstone = true
 
--- question 20: do key bytes, strictly falling sequences, kind, length and value offset agree? A sum of 2^64 or more never
--- does, since a block's sequence has 8 bytes.
+-- does the sequence of the version at a place agree? A sum of 2^64 or more never does.
+unfoldable pub seqAgrees : List ℕ → Opened → ℕ → ℕ → Bool
+seqAgrees s o pos seq = both (ltb (storedSeq s o pos) (2 ^ 64)) (eqb (storedSeq s o pos) seq)
+
+-- question 20: do key bytes, strictly falling sequences, kind, length and value offset agree?
 unfoldable pub versionAgrees : List ℕ → Opened → Cursor → Entry → Bool
 versionAgrees s o c e =
     both (equalBytes (e .key) (storedKey s o c))
     (both (either (c .first) (ltb (e .seq) (c .«last_seq»)))
-    (both (eqb (storedSeq s o (c .pos)) (e .seq))
+    (both (seqAgrees s o (c .pos) (e .seq))
     (both (sameKind (kindIn o (storedValue s o (c .pos))) (e .kind))
     (both (eqb (lengthIn o (storedValue s o (c .pos))) (e .size))
     (eqb (storedOffset s o (c .pos)) (e .place))))))
@@ -99,5 +102,5 @@ visitOf s o end c previous e value =
 
 -- for proofs alone: `unfolding version-defs` opens the definitions of this file
 unfoldable pub version-defs : ℕ
-unfolding storedKey storedSeq storedValue kindIn lengthIn storedOffset storedChecksum sameKind versionAgrees checksumAgrees advanced versionFor visitOf
+unfolding storedKey storedSeq storedValue kindIn lengthIn storedOffset storedChecksum sameKind seqAgrees versionAgrees checksumAgrees advanced versionFor visitOf
 version-defs = 0

@@ -9,7 +9,7 @@ ghost use Rattle.num.specs.Order.{equalBytes};
 ghost use Rattle.crc32.specs.Table.{isTable};
 ghost use Rattle.encoding.specs.Encoding.{Widths, versionLenOf, tombstoneOf};
 ghost use Rattle.arena.specs.Internal.{Readable, Inside, Standing};
-ghost use Rattle.versions.specs.Version.{storedKey, storedSeq, kindIn, lengthIn, sameKind, versionAgrees, checksumAgrees, advanced, versionFor, visitOf};
+ghost use Rattle.versions.specs.Version.{storedKey, kindIn, lengthIn, sameKind, seqAgrees, versionAgrees, checksumAgrees, advanced, versionFor, visitOf};
 use arena::Cursor;
 use arena::Visited;
 use header::Opened;
@@ -54,11 +54,11 @@ fn seq_falls(c: Cursor, seq: u64) -> bool
     seq < c.last_seq
 }
 
-// Is it the least sequence plus the stored number? The sum may pass 2^64, the difference does not.
+// Is it the least sequence plus the stored number? The sum may pass 2^64, the difference does not; a sequence is below 2^64.
 fn seq_agrees(section: &[u8], o: Opened, pos: usize, seq: u64) -> bool
     requires { ⌜ Widths (o .encoding) ⌝ }
     requires { ⌜ pos + o .encoding .seq ≤ length (now section) ⌝ }
-    ensures { λ r. ⌜ r ≡ eqb (storedSeq (now (section .entry)) o pos) seq ⌝ }
+    ensures { λ r. ⌜ r ≡ seqAgrees (now (section .entry)) o pos seq ⌝ }
 {
     if seq < o.min_seq {
         return false;

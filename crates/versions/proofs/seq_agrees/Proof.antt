@@ -15,7 +15,8 @@ uint-requires c κs =
 returns-2 : tie.Need-returns-2
 returns-2 c =
     let if1 = c .before .before .if1 in
-    seq-less _ _ _ _ (if1 .left) (c .before .uint .ensures)
+    let fits = c .before .before .before .before .before .fits in
+    seq-less _ _ _ _ (if1 .left) (fits .seq .fits) (c .before .uint .ensures)
 
 pub seq-agrees-spec : {M : Type 1} → statement M
 seq-agrees-spec = tie.close (tie.spec returns uint-requires returns-2)
