@@ -2,7 +2,7 @@
 -- every record is a version of a key.
 -- Assumes nothing.
 use mathlib.Core.Path.{_≡_, refl, sym, ap, _∙_, subst}
-use mathlib.Core.List.{List, [], _∷_, List·Memᴰ, List·Memᴰ·head, List·Memᴰ·tail, List·Memᴰ·not-nil}
+use mathlib.Core.List.{List, List·Memᴰ}
 use mathlib.Core.Bool.{true}
 use Prim.Native.Nat.{ℕ, zero, suc, _+_, _*_, _<_, _≤_}
 use native.Mathlib.Nat.{not-suc-le-zero, mul-le-mul-right}
@@ -10,6 +10,7 @@ use native.Mathlib.Omega.{arith}
 use lib.ListN.{length, take, drop, length-append}
 use Rattle.num.specs.Number.{leAt}
 use Rattle.num.specs.Order.{lessThan}
+use Rattle.num.proofs.Lists as lists
 use Rattle.num.proofs.Lists.{part-length}
 use Rattle.num.proofs.Order.{lessThan-transitive, lessThan-different}
 use Rattle.num.proofs.Steps.{neighbours}
@@ -18,7 +19,7 @@ use Rattle.encoding.specs.Encoding.{keyHeaderLenOf, versionLenOf}
 use Rattle.header.specs.declared.Opened.{Opened}
 use Rattle.arena.specs.Key.{keyHeaderAt}
 use Rattle.agreement.specs.Keys.{keyRecordsEnd, addressOf, keyHeaderOf, versionCount, suffixPlace, anchorIndex, keyAt, keySlot, firstVersion, versionPlace, versionSeq}
-use Rattle.agreement.specs.Agrees.{entryAt, SameVersion, Agrees}
+use Rattle.agreement.specs.Agrees.{noEntry, entryAt, SameVersion, Agrees}
 use Rattle.agreement.proofs.Indices.{anchor-le, address-next, address-le, version-before, version-of}
 
 -- a number other than 0 has a width other than 0
@@ -36,15 +37,11 @@ header-some s o k h =
 -- the records of a list are those at its indices
 pub member-index : (es : List Entry) (e : Entry) → List·Memᴰ e es → (r : ℕ) × (r < length es) × (e ≡ entryAt es r)
 unfolding entryAt
-member-index [] e m = absurd (List·Memᴰ·not-nil m)
-member-index (x ∷ es) e (List·Memᴰ·head p) = (0, omega arith, p)
-member-index (x ∷ es) e (List·Memᴰ·tail m) = let i = member-index es e m in let h = i .1 in (suc (i .0), omega arith, i .2)
+member-index es e m = lists.member-index es e noEntry m
 
 pub index-member : (es : List Entry) (r : ℕ) → r < length es → List·Memᴰ (entryAt es r) es
 unfolding entryAt
-index-member [] r h = absurd (not-suc-le-zero h)
-index-member (x ∷ es) zero h = List·Memᴰ·head refl
-index-member (x ∷ es) (suc r) h = List·Memᴰ·tail (index-member es r (omega arith))
+index-member es r h = lists.index-member es r noEntry h
 
 -- record r of a list, and the version that it is
 pub record VersionOf (s : List ℕ) (o : Opened) (es : List Entry) (r : ℕ) : Type 0 where

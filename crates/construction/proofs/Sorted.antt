@@ -8,6 +8,7 @@ use native.Mathlib.Nat.{not-suc-le-zero}
 use native.Mathlib.Omega.{arith}
 use lib.ListN.{length, getD}
 use Rattle.num.proofs.Choice.{Each}
+use Rattle.num.proofs.Lists.{member-index, index-member}
 
 -- every two numbers of the list, the earlier one first
 abbrev pub EachTwo : (ℕ → ℕ → Type 0) → List ℕ → Type 0
@@ -67,13 +68,10 @@ map-each P f (List·Memᴰ·tail m) h = map-each P f m (h .1)
 -- ---- by positions
 
 pub member-at : {l : List ℕ} {x : ℕ} → List·Memᴰ x l → (j : ℕ) × (j < length l) × (getD l j 0 ≡ x)
-member-at (List·Memᴰ·head e) = (0, omega arith, sym e)
-member-at (List·Memᴰ·tail m) = let r = member-at m in let h = r .1 in (suc (r .0), omega arith, r .2)
+member-at {l} {x} m = let r = member-index l x 0 m in (r .0, r .1, sym (r .2))
 
 pub at-member : (l : List ℕ) (j : ℕ) → j < length l → List·Memᴰ (getD l j 0) l
-at-member [] j h = absurd (not-suc-le-zero h)
-at-member (x ∷ l) zero h = List·Memᴰ·head refl
-at-member (x ∷ l) (suc j) h = List·Memᴰ·tail (at-member l j (omega arith))
+at-member l j h = index-member l j 0 h
 
 pub each-at : (P : ℕ → Type 0) (l : List ℕ) → Each P l → (j : ℕ) → j < length l → P (getD l j 0)
 each-at P l h j k = each-member P h (at-member l j k)

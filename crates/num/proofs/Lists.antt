@@ -2,9 +2,9 @@
 -- A part of n elements from a place is `take n (drop place l)`; a run of stores is `sets`.
 -- Assumes nothing.
 use mathlib.Core.Path.{_≡_, refl, sym, ap, _∙_}
-use mathlib.Core.List.{List, [], _∷_, _++_, append-assoc}
+use mathlib.Core.List.{List, [], _∷_, _++_, append-assoc, List·Memᴰ, List·Memᴰ·head, List·Memᴰ·tail, List·Memᴰ·not-nil}
 use Prim.Native.Nat.{ℕ, zero, suc, _+_, _-_, _<_, _≤_}
-use native.Mathlib.Nat.{add-zero}
+use native.Mathlib.Nat.{add-zero, not-suc-le-zero}
 use native.Mathlib.Omega.{arith}
 use lib.Dec.{lit<}
 use lib.ListN.{length, getD, set, take, drop, replicate, length-append, length-drop, List·getD-append}
@@ -29,6 +29,18 @@ module _ {ℓ} {A : Type ℓ} where
   -- what stands at a place lies inside
   pub standing-inside : (l t rest : List A) (place : ℕ) → drop place l ≡ t ++ rest → place ≤ length l → place + length t + length rest ≡ length l
   standing-inside l t rest place e h = omega (arith, length-drop place l, ap length e, length-append t rest)
+
+  -- ---- the members of a list are its elements by index
+
+  pub member-index : (l : List A) (x d : A) → List·Memᴰ x l → (j : ℕ) × (j < length l) × (x ≡ getD l j d)
+  member-index [] x d m = absurd (List·Memᴰ·not-nil m)
+  member-index (y ∷ l) x d (List·Memᴰ·head e) = (0, omega arith, e)
+  member-index (y ∷ l) x d (List·Memᴰ·tail m) = let r = member-index l x d m in let h = r .1 in (suc (r .0), omega arith, r .2)
+
+  pub index-member : (l : List A) (j : ℕ) (d : A) → j < length l → List·Memᴰ (getD l j d) l
+  index-member [] j d h = absurd (not-suc-le-zero h)
+  index-member (x ∷ l) zero d h = List·Memᴰ·head refl
+  index-member (x ∷ l) (suc j) d h = List·Memᴰ·tail (index-member l j d (omega arith))
 
   -- ---- parts of parts
 
