@@ -1,0 +1,12 @@
+pub mod Stands
+pub mod Groups
+pub mod Arena
+pub mod Versions
+pub mod Entries
+pub mod Tables
+pub mod Agreement
+pub mod Section
+pub mod Totals
+pub mod Header
+pub mod Opens
+pub mod Worked

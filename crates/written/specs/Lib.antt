@@ -1,0 +1,5 @@
+pub mod Joined
+pub mod Arena
+pub mod Section
+pub mod Opens
+pub mod Internal
