@@ -14,7 +14,8 @@ use Rattle.sstable.specs.Kind.{kindNumber}
 use Rattle.sstable.specs.Limits.{limit-defs}
 use Rattle.sstable.specs.declared.Kind.the-variants.{Put, Tombstone}
 use Rattle.encoding.specs.Encoding.{encoding-defs}
-use Rattle.builder.specs.Area.{Offer, area-defs}
+use Rattle.area.specs.Area.{area-defs}
+use Rattle.builder.specs.Offer.{Offer, offer-defs}
 use Rattle.builder.specs.Record.{emptyBuilder, sizeOfSection, builder-defs}
 use Rattle.builder.specs.Add.{BuilderState, addOf, add-defs}
 
@@ -62,12 +63,12 @@ worked : addAll (emptyIn 97) workedOffers
             anchor = 0;
           };
     })
-unfolding addAll emptyIn workedOffers add-defs builder-defs area-defs choice-defs encoding-defs crc-defs limit-defs leAt leBytes commonPrefixLen kindNumber
+unfolding addAll emptyIn workedOffers add-defs builder-defs area-defs offer-defs choice-defs encoding-defs crc-defs limit-defs leAt leBytes commonPrefixLen kindNumber
 worked = refl
 
 -- one byte less is 34
 no-room : addAll (emptyIn 94) workedOffers ≡ refused 34
-unfolding addAll emptyIn workedOffers add-defs builder-defs area-defs choice-defs encoding-defs crc-defs limit-defs leAt leBytes commonPrefixLen kindNumber
+unfolding addAll emptyIn workedOffers add-defs builder-defs area-defs offer-defs choice-defs encoding-defs crc-defs limit-defs leAt leBytes commonPrefixLen kindNumber
 no-room = refl
 
 -- the empty builder's size is 69, and 101 with a prefix

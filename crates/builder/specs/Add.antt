@@ -12,7 +12,8 @@ use Rattle.sstable.specs.Limits.{withinLimits}
 use Rattle.builder.specs.declared.Builder.{Builder}
 use Rattle.builder.specs.declared.Added.{Added}
 use Rattle.builder.specs.declared.Added.the-variants as added
-use Rattle.builder.specs.Area.{Offer, areaVersions, headBytes, versionBytes, entryLen}
+use Rattle.area.specs.Area.{areaVersions}
+use Rattle.builder.specs.Offer.{Offer, headBytes, versionBytes, entryLen}
 use Rattle.builder.specs.Record.{Counted, builderAfter, standing}
 
 -- the most keys (question 33)

@@ -1,3 +1,4 @@
-pub mod Area
+pub mod Offer
 pub mod Record
 pub mod Add
+pub mod Internal

@@ -10,7 +10,9 @@ use Rattle.num.specs.Order.{commonPrefixLen}
 use Rattle.encoding.specs.declared.Totals.{Totals}
 use Rattle.encoding.specs.Encoding.{group, encodingOf, sectionLenOf}
 use Rattle.builder.specs.declared.Builder.{Builder}
-use Rattle.builder.specs.Area.{headLen, areaVersionLen, areaKeyLen, areaVersions, areaKey}
+use Rattle.builder.specs.declared.Sized.{Sized}
+use Rattle.builder.specs.declared.Sized.the-variants as sized
+use Rattle.area.specs.Area.{headLen, areaVersionLen, areaKeyLen, areaVersions, areaKey}
 
 -- the empty builder
 unfoldable pub emptyBuilder : Builder
@@ -111,7 +113,17 @@ sizeOfSection b prefix =
     ask sizeable b otherwise refused 37 then
     given (sectionLenOf (encodingOf (b .totals)) (b .totals) prefix)
 
+-- the answer: the size, or the number
+unfoldable pub sizedRead : Answer ℕ → Sized
+sizedRead (given n) = sized.Bytes n
+sizedRead (refused n) = sized.Refused n
+
+-- the number of the question that size fails, 0 if it fails none
+unfoldable pub sizedNumber : Sized → ℕ
+sizedNumber (sized.Bytes n) = 0
+sizedNumber (sized.Refused n) = n
+
 -- for proofs alone: `unfolding builder-defs` opens the definitions of this file
 unfoldable pub builder-defs : ℕ
-unfolding emptyBuilder anchorNext sharedWith totalsAfter builderAfter totalsSmall keyLies standing sizeable sizeOfSection
+unfolding emptyBuilder anchorNext sharedWith totalsAfter builderAfter totalsSmall keyLies standing sizeable sizeOfSection sizedRead sizedNumber
 builder-defs = 0

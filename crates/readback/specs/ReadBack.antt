@@ -5,25 +5,15 @@ use mathlib.Core.Bool.{Bool, true, false}
 use mathlib.Core.List.{List, [], _∷_}
 use mathlib.Core.Option.{Option, some, none}
 use lib.Dec.{eqb, leb, ltb}
-use lib.ListN.{length, getD}
+use lib.ListN.{length}
 use Rattle.num.specs.Choice.{if_then_else_, ask_otherwise_then_, both, oneOf}
 use Rattle.num.specs.Number.{leAt}
 use Rattle.sstable.specs.Limits.{withinLimits}
 use Rattle.encoding.specs.declared.Totals.{Totals}
 use Rattle.builder.specs.declared.Builder.{Builder}
-use Rattle.builder.specs.Area.{headLen, areaVersionLen, areaKeyLen, areaVersions, areaKey}
+use Rattle.area.specs.Area.{headLen, areaVersionLen, areaKeyLen, areaVersions, areaKey, areaKind, areaSize, areaOffset}
 use Rattle.builder.specs.Record.{Counted, emptyBuilder, builderAfter}
 use Rattle.builder.specs.Add.{maxKeys}
-
--- of the version at a place of the area: its kind byte, its value length and its value offset
-unfoldable pub areaKind : List ℕ → ℕ → ℕ
-areaKind area place = getD area (place + 8) 0
-
-unfoldable pub areaSize : List ℕ → ℕ → ℕ
-areaSize area place = leAt area (place + 9) 4
-
-unfoldable pub areaOffset : List ℕ → ℕ → ℕ
-areaOffset area place = leAt area (place + 13) 8
 
 -- what the record counts of the version at a place, of the key whose head stands at another
 unfoldable pub countedAt : List ℕ → ℕ → ℕ → ℕ → Bool → Counted
@@ -103,5 +93,5 @@ readsBack area b = both (leb (b .used) (length area)) (readsBackFor b (areaRead 
 
 -- for proofs alone: `unfolding read-back-defs` opens the definitions of this file
 unfoldable pub read-back-defs : ℕ
-unfolding areaKind areaSize areaOffset countedAt versionRead versionsRead versionsReadFor keyRead keysRead areaRead sameTotals readsBackFor readsBack
+unfolding countedAt versionRead versionsRead versionsReadFor keyRead keysRead areaRead sameTotals readsBackFor readsBack
 read-back-defs = 0
