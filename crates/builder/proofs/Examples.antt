@@ -19,7 +19,7 @@ use Rattle.builder.specs.Offer.{Offer, offer-defs}
 use Rattle.builder.specs.Record.{emptyBuilder, sizeOfSection, builder-defs}
 use Rattle.builder.specs.Add.{BuilderState, addOf, add-defs}
 
-workedOffers : List Offer
+unfoldable pub workedOffers : List Offer
 workedOffers =
     record { kind = Put; key = 97 ∷ 98 ∷ []; value = 120 ∷ 121 ∷ 122 ∷ []; seq = 7; new-key = true; offset = 23 }
     ∷ record { kind = Tombstone; key = 97 ∷ 98 ∷ []; value = []; seq = 3; new-key = false; offset = 47 }
@@ -27,12 +27,12 @@ workedOffers =
     ∷ []
 
 -- one add after another, up to the first refusal
-addAll : BuilderState → List Offer → Answer BuilderState
+unfoldable pub addAll : BuilderState → List Offer → Answer BuilderState
 addAll b [] = given b
 addAll b (e ∷ es) = elim (addOf (b .area) (b .builder) e) [ given c ↦ addAll c es | refused n ↦ refused n ]
 
 -- an area of this many bytes, all of them 170
-emptyIn : ℕ → BuilderState
+unfoldable pub emptyIn : ℕ → BuilderState
 emptyIn room = record { area = replicate room 170; builder = emptyBuilder }
 
 worked : addAll (emptyIn 97) workedOffers
