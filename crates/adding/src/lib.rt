@@ -16,7 +16,7 @@ use builder::Added;
 use builder::Builder;
 use sstable::Kind;
 
-// The CRC-32 of a value. An empty one, as every tombstone has, needs no table.
+// The CRC-32 of a value; that of an empty one is 0, without the tables.
 fn checksum(value: &[u8]) -> u32
     ensures { λ r. ⌜ r ≡ crcOf (now (value .entry)) ⌝ }
 {
@@ -103,7 +103,16 @@ pub fn add(
         return Added::Refused(number);
     }
     let count = builder::versions_with(area, b, new_key);
-    let after = builder::builder_after(area, b, key, count, value.len() as u64, seq, offset, new_key);
+    let after = builder::builder_after(
+        area,
+        b,
+        key,
+        count,
+        value.len() as u64,
+        seq,
+        offset,
+        new_key,
+    );
     put_entry(area, b, kind, key, value, seq, new_key, offset, count);
     Added::Taken(after)
 }

@@ -5,7 +5,7 @@ use mathlib.Core.Bool.{Bool, true, false}
 use mathlib.Core.List.{List}
 use Prim.Native.Nat.{ℕ, _+_, _-_, _^_, _≤_, _<_}
 use native.Mathlib.Omega.{arith}
-use lib.Dec.{leb, ltb}
+use lib.Dec.{leb}
 use lib.ListN.{length}
 use borrow.Author.Tests.{leb-true, le-leb, lt-leb}
 use Rattle.num.specs.Choice.{if_then_else_, both, either}
@@ -15,7 +15,7 @@ use Rattle.sstable.specs.Limits.{withinLimits, limit-defs}
 use Rattle.builder.specs.declared.Builder.{Builder}
 use Rattle.builder.specs.declared.Added.the-variants as added
 use Rattle.builder.specs.Offer.{Offer, entryLen}
-use Rattle.builder.specs.Record.{standing, builderAfter}
+use Rattle.builder.specs.Record.{builderAfter}
 use Rattle.builder.specs.Add.{maxKeys, areaAfter, countedOf, BuilderState, addOf, addedRead, addedNumber, addedArea}
 use Rattle.builder.specs.Internal.{Like, Passed}
 
@@ -88,8 +88,7 @@ module _ (area : List ℕ) (b : Builder) (e : Offer) where
       let q₂ = passed _ 32 _ (λ x. omega arith) (q₁ .2) in
       let q₃ = passed _ 33 _ (λ x. omega arith) (q₂ .2) in
       let q₄ = passed _ 37 _ (λ x. omega arith) (q₃ .2) in
-      let q₅ = passed _ 34 _ (λ x. omega arith) (q₄ .2) in
-      (
+      let q₅ = passed _ 34 _ (λ x. omega arith) (q₄ .2) in (
         record { limits = q₀ .0; follows = q₁ .0; stands = q₄ .0; room = leb-true _ _ (both-true _ _ (q₅ .0) .0) },
         q₀ .1 ∙ q₁ .1 ∙ q₂ .1 ∙ q₃ .1 ∙ q₄ .1 ∙ q₅ .1,
       )

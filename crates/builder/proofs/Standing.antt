@@ -5,7 +5,7 @@ use mathlib.Core.Bool.{Bool, true, false}
 use mathlib.Core.List.{List}
 use Prim.Native.Nat.{ℕ, zero, suc, _+_, _-_, _%_, _^_, _≤_, _<_}
 use native.Mathlib.Omega.{arith}
-use lib.Dec.{eqb, leb, ltb}
+use lib.Dec.{leb, ltb}
 use lib.ListN.{length, take, drop}
 use borrow.Author.Tests.{leb-true, le-leb, lt-leb, ltb-true, ne-eqb}
 use Rattle.num.specs.Choice.{if_then_else_, either}
@@ -111,8 +111,8 @@ stood area b e =
       inside = leb-true _ _ (e₁ .0);
       totals = small b (e₂ .0);
       keyed = λ h. let f = both-true _ _ (either-second _ _ (e₂ .1) (ne-eqb (b .totals .keys) 0 (λ z. omega arith))) in
-      let g = both-true _ _ (f .1) in
-      record { last = lies area b (b .«last_key») (f .0); anchor = lies area b (b .anchor) (g .0); few = leb-true _ _ (g .1) };
+          let g = both-true _ _ (f .1) in
+          record { last = lies area b (b .«last_key») (f .0); anchor = lies area b (b .anchor) (g .0); few = leb-true _ _ (g .1) };
     }
 
 -- a key that is no anchor comes after another

@@ -1,6 +1,5 @@
 -- Adding an entry to a builder: questions 30 to 34 and 37 (document 01, "Building").
 use Prim.Native.Nat.{ℕ, _+_, _^_}
-use mathlib.Core.Bool.{Bool}
 use mathlib.Core.List.{List, _++_}
 use lib.Dec.{leb, ltb}
 use lib.ListN.{length}
@@ -39,7 +38,7 @@ pub record BuilderState : Type 0 where
   pub area : List ℕ
   pub builder : Builder
 
--- the questions in their order
+-- the questions in their order; 37 goes before 34, which counts from the used bytes
 unfoldable pub addOf : List ℕ → Builder → Offer → Answer BuilderState
 addOf area b e =
     ask withinLimits (length (e .key)) (length (e .value)) otherwise refused 30 then

@@ -1,6 +1,6 @@
 -- The builder's record: what an entry adds to it, and question 37 of it.
 use Prim.Native.Nat.{ℕ, _+_, _-_, _%_, _^_, min, max}
-use mathlib.Core.Bool.{Bool, true, false}
+use mathlib.Core.Bool.{Bool}
 use mathlib.Core.List.{List}
 use lib.Dec.{eqb, leb}
 use lib.ListN.{length}
@@ -49,11 +49,11 @@ pub record Counted : Type 0 where
 unfoldable pub anchorNext : Builder → Bool
 anchorNext b = eqb (b .totals .keys % group) 0
 
--- how many bytes a new key shares with the latest anchor, nothing if it is one itself
+-- how many bytes a new key shares with the latest anchor, 0 if it is one itself
 unfoldable pub sharedWith : List ℕ → Builder → List ℕ → ℕ
 sharedWith area b key = if anchorNext b then 0 else commonPrefixLen (areaKey area (b .anchor)) key
 
--- the totals with an entry, whose key is counted if it is new
+-- the totals with an entry, whose key is counted if it is new; the least sequence starts with the first version
 unfoldable pub totalsAfter : List ℕ → Builder → Counted → Totals
 totalsAfter area b e =
     record {
@@ -93,8 +93,8 @@ totalsSmall b =
 unfoldable pub keyLies : List ℕ → Builder → ℕ → Bool
 keyLies area b head = both (leb (head + headLen) (b .used)) (leb (head + headLen + areaKeyLen area head) (b .used))
 
--- question 37 of `add`: does the used area lie in the lent one, do the last key and the anchor, if there is a key, lie in the used area, and
--- are the totals and that key's number of versions at most 2^30?
+-- question 37 of `add`: does the used area lie in the lent one, are the totals at most 2^30, and, if there is a key, do the last key and the
+-- anchor lie in the used area, and is the last key's number of versions at most 2^30?
 unfoldable pub standing : List ℕ → Builder → Bool
 standing area b =
     both (leb (b .used) (length area))
@@ -103,7 +103,7 @@ standing area b =
     (both (keyLies area b (b .«last_key»))
     (both (keyLies area b (b .anchor)) (leb (areaVersions area (b .«last_key»)) (2 ^ 30))))))
 
--- question 37 of size: are the totals at most 2^30, and is the greatest sequence not below the least?
+-- question 37 of `size`: are the totals at most 2^30, and is the greatest sequence not below the least?
 unfoldable pub sizeable : Builder → Bool
 sizeable b = both (totalsSmall b) (leb (b .totals .«min_seq») (b .totals .«max_seq»))
 

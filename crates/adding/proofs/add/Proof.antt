@@ -1,5 +1,4 @@
-use mathlib.Core.Path.{_≡_, sym, _∙_}
-use Prim.Native.Nat.{ℕ}
+use mathlib.Core.Path.{sym, _∙_}
 use Rattle.builder.specs.Offer.{Offer}
 use Rattle.builder.specs.Add.{versionsWith}
 use Rattle.builder.proofs.Asked.{like, key-limit, taken, taken-answer, refused-answer}

@@ -1,5 +1,4 @@
 use mathlib.Core.Path.{sym, ap, _∙_}
-use lib.Seq.{take-length}
 use Rattle.crc32.specs.V42.{crcOf}
 use Rattle.crc32.proofs.Examples.{nothing}
 use Rattle.adding.proofs.Stores.{empty}

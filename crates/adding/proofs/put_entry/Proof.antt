@@ -1,8 +1,6 @@
-use mathlib.Core.Path.{refl}
 use native.Mathlib.Omega.{arith}
 use Rattle.builder.specs.Offer.{versionBytes}
 use Rattle.builder.specs.Add.{versionsWith}
-use Rattle.builder.proofs.Standing.{stood}
 use Rattle.adding.proofs.Entry.{new-room, old-room, old-keyed, new-area, old-area}
 use borrow.Author.Needs.{needs}
 use Rattle.adding.proofs.put_entry.Statement.{statement}

@@ -1,5 +1,4 @@
 use mathlib.Core.Path.{ap, _∙_}
-use mathlib.Core.List.{List}
 use Prim.Native.Nat.{ℕ, _+_}
 use native.Mathlib.Omega.{arith}
 use lib.Seq.{sets}

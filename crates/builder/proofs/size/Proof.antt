@@ -1,18 +1,13 @@
-use mathlib.Core.Path.{sym, ap, ap₂, _∙_, subst⁻¹}
+use mathlib.Core.Path.{sym, _∙_, subst⁻¹}
 use borrow.Author.Tests.{not-true, not-false}
 use Rattle.num.specs.Choice.{if_then_else_}
-use Rattle.encoding.specs.Encoding.{Widths, sectionLenOf}
+use Rattle.encoding.specs.Encoding.{Widths}
 use Rattle.encoding.proofs.Widths.{encodingOf-widths}
 use Rattle.builder.specs.Record.{sizeOfSection, sizedRead}
 use Rattle.builder.proofs.Standing.{sizeable-bounded}
 use borrow.Author.Needs.{needs}
 use Rattle.builder.proofs.size.Statement.{statement}
 use Rattle.builder.proofs.size.Tie as tie
-use Rattle.builder.proofs.size.Reads as reads
-use Rattle.builder.proofs.size.Lts as lts
-use Rattle.builder.proofs.sizeable.Reads as sizeable-reads
-use Rattle.encoding.proofs.Encoding.for_builder.Reads as for-builder-reads
-use Rattle.encoding.proofs.Encoding.section_len.Reads as section-len-reads
 
 sizeable-requires : tie.Need-sizeable-requires
 sizeable-requires c κs = search needs

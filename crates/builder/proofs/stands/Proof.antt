@@ -1,9 +1,8 @@
-use mathlib.Core.Path.{refl, sym, ap, _∙_}
+use mathlib.Core.Path.{sym, ap, _∙_}
 use Prim.Native.Nat.{ℕ, _^_}
 use native.Mathlib.Omega.{arith}
 use lib.Dec.{leb}
 use borrow.Author.Tests.{not-true, not-false, le-leb, lt-leb, eq-eqb, ne-eqb}
-use Rattle.num.specs.Choice.{either}
 use Rattle.num.proofs.Choice.{both-yes, both-no}
 use Rattle.area.specs.Area.{areaVersions}
 use Rattle.builder.specs.Record.{standing}
