@@ -11,7 +11,7 @@ use lib.ListN.{length, getD, set, replicate, length-set, length-replicate, getD-
 use lib.Seq.{getD-set-same, getD-set-other}
 use borrow.Author.Tests.{eqb-true, eqb-false, eq-eqb, ne-eqb, ltb-true, ltb-false}
 use Rattle.num.specs.Choice.{if_then_else_}
-use Rattle.num.proofs.Choice.{false-true}
+use Rattle.num.proofs.Choice.{false-true, never-true}
 use Rattle.num.proofs.Steps.{first-or-later}
 use Rattle.construction.specs.Construct.{isFree, freeFrom, leastFree}
 use Rattle.construction.specs.Internal.{freeTo, freeCount}
@@ -124,3 +124,7 @@ free-some slots h =
     let f = least-free slots (r .0) l (r .2) in
     let k = f .0 in
     (omega arith, f .1)
+
+-- before the least free slot every slot is taken
+pub before-least : (slots : List ℕ) (k : ℕ) → leastFree slots < length slots → k < leastFree slots → isFree slots k ≡ false
+before-least slots k h b = never-true (isFree slots k) (λ q. let l = least-free slots k (omega arith) q .0 in omega arith)

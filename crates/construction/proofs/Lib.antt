@@ -12,3 +12,4 @@ pub mod Singles
 pub mod Placed
 pub mod Seeds
 pub mod Promises
+pub mod Buckets

@@ -10,13 +10,12 @@ use lib.Dec.{eqb, leb, ltb}
 use lib.ListN.{length, getD, replicate, List·getD-eq-default}
 use lib.Seq.{getD-set-same, getD-set-other}
 use borrow.Author.Tests.{eqb-true, eqb-false, leb-true, leb-false, ltb-true, ltb-false}
-use Rattle.num.proofs.Choice.{never-true}
 use Rattle.num.proofs.Counting.{all-taken}
-use Rattle.construction.specs.Construct.{Placement, bucketCount, sizeOf, orderOf, emptyPlacement, isFree, bucketPlaced, placeBuckets, leastFree, placeSingle, placeSingles, singlesFor, placementOf}
+use Rattle.construction.specs.Construct.{Placement, bucketCount, sizeOf, orderOf, emptyPlacement, bucketPlaced, placeBuckets, leastFree, placeSingle, placeSingles, singlesFor, placementOf}
 use Rattle.construction.specs.Promises.{bucketAt, slotAt, LeastPilot, LeastPilots, FirstSlots, PilotSound, searched, direct, Filled}
 use Rattle.construction.proofs.Sorted.{each-member, two-end, member-split}
 use Rattle.construction.proofs.Order.{order-is, is-order}
-use Rattle.construction.proofs.Free.{least-free}
+use Rattle.construction.proofs.Free.{before-least}
 use Rattle.construction.proofs.Members.{bucket-below, bucket-some, order-distinct}
 use Rattle.construction.proofs.Filling.{least-pilot}
 use Rattle.construction.proofs.Placing.{Shape, empty-shape, Turn, large, small, turn-of, buckets-step, free-singles, differ-unasked}
@@ -122,10 +121,7 @@ module _ (hs : List ℕ) where
           rw whole
           (singles-pilot after (placeSingle hs v x) x (λ m _. not-again before x after o m)
           ∙ rw (single-is hs v x e) (getD-set-same (v .pilots) x (2 ^ 31 + at) 0 inside)) in
-          (u, at, large-placed, record { inside = f .0; free = f .1; first = λ k b. before-first (v .slots) k (f .0) b }, pilot)
-        where
-          before-first : (slots : List ℕ) (k : ℕ) → leastFree slots < length slots → k < leastFree slots → isFree slots k ≡ false
-          before-first slots k h b = never-true (isFree slots k) (λ q. let l = least-free slots k (omega arith) q .0 in omega arith)
+          (u, at, large-placed, record { inside = f .0; free = f .1; first = λ k b. before-least (v .slots) k (f .0) b }, pilot)
 
       pub empty-pilots : (x : ℕ) → sizeOf hs x ≡ 0 → getD (t .pilots) x 0 ≡ 0
       unfolding emptyPlacement

@@ -8,9 +8,10 @@ use lib.Dec.{eqb}
 use lib.ListN.{length, getD}
 use Rattle.num.specs.Choice.{if_then_else_}
 use Rattle.num.specs.Internal.{RegionHolds}
+use Rattle.encoding.specs.Encoding.{bucketsOf}
 use Rattle.classes.specs.Internal.{Sorted}
 use Rattle.construction.specs.Construct.{Placement, bucketCount, keyBuckets, orderOf, sizeOf, isFree}
-use Rattle.construction.specs.Scratch.{startsAt, membersAt, orderAt, scratchLen}
+use Rattle.construction.specs.Scratch.{startsAt, membersAt, orderAt, scratchLen, scratch-defs}
 
 -- hashes and a scratch that construction takes
 pub record Room (hs s : List ℕ) : Type 0 where
@@ -45,3 +46,8 @@ servedAs false t = none
 unfoldable pub internal-construct-defs : ℕ
 unfolding freeTo freeCount singlesIn servedAs
 internal-construct-defs = 0
+
+-- for proofs alone: `unfolding place-defs` opens the places of the scratch in numbers
+unfoldable pub place-defs : ℕ
+unfolding bucketCount bucketsOf scratch-defs
+place-defs = 0

@@ -1,4 +1,3 @@
-pub mod Items
 pub mod Scratch
 pub mod Buckets
 pub mod Candidates

@@ -20,7 +20,8 @@ use Rattle.pilots.specs.Internal.{Fits, Keeps, Searched, Chosen, Bucket,
 use Rattle.pilots.proofs.Scratch.{layout, room-fits, part-get, part-set, part-other, keeps-none, keeps-then, keeps-fewer, keeps-set, keeps-part, keeps-slots, members-same, members-size}
 use Rattle.pilots.proofs.Candidates.{positions-below}
 use Rattle.pilots.proofs.Search.{least-some, least-none}
-use Rattle.pilots.proofs.Buckets.{arranged-kept, start-read, order-read, bucket-members, bucket-part, order-length, order-below}
+use Rattle.construction.proofs.Order.{order-length, order-below}
+use Rattle.pilots.proofs.Buckets.{arranged-kept, start-read, order-read, bucket-members, bucket-part}
 
 -- ---- one bucket of two members or more
 

@@ -1,0 +1,3 @@
+pub mod Loop
+pub mod Step
+pub mod Stores
