@@ -1,10 +1,13 @@
 -- What the probes answer where the functions below them ask something of their caller, and what they write.
+use mathlib.Core.Path.{_≡_}
 use Prim.Native.Nat.{ℕ, _+_, _-_, _^_}
 use mathlib.Core.List.{List, [], _∷_}
 use mathlib.Core.Bool.{Bool}
 use lib.Dec.{eqb, leb}
 use lib.ListN.{length, getD, take, drop}
 use lib.Seq.{sets}
+use Rattle.num.specs.Answer.{Answer, given, refused}
+use Rattle.construction.specs.Construct.{Placement, Constructed}
 use Rattle.num.specs.Choice.{if_then_else_, both, either}
 use Rattle.sstable.specs.Kind.{kindNumber}
 use Rattle.block.specs.declared.Verified.{Verified}
@@ -88,7 +91,22 @@ bounded t =
 unfoldable pub lengthProbe : Totals → ℕ → ℕ
 lengthProbe t prefix = if bounded t then sectionLenOf (encodingOf t) t prefix else 0
 
+-- 0, or 40
+unfoldable pub constructNumber : Answer Constructed → ℕ
+constructNumber (given c) = 0
+constructNumber (refused n) = n
+
+-- the seed behind a construction, or what stood there
+unfoldable pub seedWritten : Answer Constructed → ℕ → ℕ
+seedWritten (given c) before = c .seed
+seedWritten (refused n) before = before
+
+-- the pilots and slots behind it are those that it gives; without a seed nothing is said of them
+unfoldable pub placedAs : Answer Constructed → Placement → Type 0
+placedAs (given c) t = t ≡ c .placement
+placedAs (refused n) t = Unit {0}
+
 -- for proofs alone: `unfolding probe-defs` opens the definitions of this file
 unfoldable pub probe-defs : ℕ
-unfolding bucketProbe noSlot positionProbe slotProbe metaWritten recordNumber stepProbe probedRecordWritten keyWritten totalsOf bounded lengthProbe
+unfolding bucketProbe noSlot positionProbe slotProbe metaWritten recordNumber stepProbe probedRecordWritten keyWritten totalsOf bounded lengthProbe constructNumber seedWritten placedAs
 probe-defs = 0

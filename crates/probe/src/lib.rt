@@ -1,6 +1,7 @@
 // Exports for differential runs and benchmarks: the leaves, one by one. No part of the delivered interface.
 ghost use mathlib.Core.Path.{_≡_};
 ghost use mathlib.Core.Bool.{true};
+ghost use Prim.Native.Nat.{_+_, _*_, _≤_, _^_};
 ghost use lib.ListN.{length};
 ghost use Rattle.crc32.specs.V42.{crcOf, updateOf};
 ghost use Rattle.crc32.specs.Table.{isTable};
@@ -8,6 +9,10 @@ ghost use Rattle.sstable.specs.Trailer.{trailerOf, trailerNumber};
 ghost use Rattle.block.specs.Verify.{verifyOf, verifiedNumber};
 ghost use Rattle.point.specs.Hash.{hashOf, fingerprintOf};
 ghost use Rattle.encoding.specs.Encoding.{widthOf};
+ghost use Rattle.construction.specs.Construct.{constructOf};
+ghost use Rattle.construction.specs.Scratch.{placementIn};
+ghost use Rattle.area.specs.Area.{keysIn};
+ghost use Rattle.construct.specs.Keys.{KeysStand};
 ghost use Rattle.probe.specs.Probe.{
   bucketProbe,
   positionProbe,
@@ -20,9 +25,13 @@ ghost use Rattle.probe.specs.Probe.{
   totalsOf,
   bounded,
   lengthProbe,
+  constructNumber,
+  seedWritten,
+  placedAs,
 };
 use block::Stepped;
 use block::Verified;
+use construct::Built;
 use encoding::Encoding;
 use encoding::Totals;
 use sstable::Trailer;
@@ -223,5 +232,31 @@ pub extern "C" fn probe_record(
             0
         }
         Stepped::Stopped => 13,
+    }
+}
+
+// Construction over the keys of an area; pilots and slots are left in the scratch. This probe asks that the area holds the keys, and that
+// hashes and scratch are long enough.
+#[no_mangle]
+pub extern "C" fn probe_construct(
+    area: &[u8],
+    count: u64,
+    hashes: &mut [u64],
+    scratch: &mut [u32],
+    seed: &mut u64,
+) -> u64
+    requires { ⌜ (1 ≤ count) × (count ≤ 2 ^ 20) × KeysStand (now area) count ⌝ }
+    requires { ⌜ (count ≤ length (now hashes)) × (6 * count + 8 ≤ length (now scratch)) ⌝ }
+    ensures { λ r. ⌜ (r ≡ constructNumber (constructOf (keysIn (now (area .entry)) count)))
+        × (now (seed .exit) ≡ seedWritten (constructOf (keysIn (now (area .entry)) count)) (now (seed .entry)))
+        × placedAs (constructOf (keysIn (now (area .entry)) count)) (placementIn count (now (scratch .exit))) ⌝ }
+{
+    let built = construct::construct(area, count as usize, hashes, scratch);
+    match built {
+        Built::Seed(s) => {
+            *seed = s;
+            0
+        }
+        Built::Exhausted => 40,
     }
 }
