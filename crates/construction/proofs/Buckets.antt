@@ -8,7 +8,7 @@ use lib.ListN.{length, getD, length-map}
 use Rattle.num.proofs.Regions.{region-at}
 use Rattle.encoding.specs.Encoding.{bucketsOf}
 use Rattle.point.specs.Hash.{bucketOf}
-use Rattle.classes.specs.Internal.{startOf, Sorted}
+use Rattle.classes.specs.Internal.{classStart, Sorted}
 use Rattle.classes.proofs.Items.{start-next, start-inside, item-is}
 use Rattle.construction.specs.Construct.{bucketCount, keyBuckets, membersOf, sizeOf}
 use Rattle.construction.specs.Scratch.{startsAt, membersAt}
@@ -18,7 +18,7 @@ unfolding keyBuckets
 keys-length hs = length-map hs (λ h. bucketOf h (bucketCount hs))
 
 module _ (hs : List ℕ) {s : List ℕ} (m : Sorted (keyBuckets hs) (bucketCount hs) startsAt (membersAt (length hs)) s) {x : ℕ} (known : x < bucketCount hs) where
-  start-read : getD s x 0 ≡ startOf (keyBuckets hs) x
+  start-read : getD s x 0 ≡ classStart (keyBuckets hs) x
   start-read = region-at (m .starts-held) x x (omega arith) (omega arith) (omega arith)
 
   pub size-read : getD s (x + 1) 0 ≡ getD s x 0 + sizeOf hs x

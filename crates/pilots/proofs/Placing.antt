@@ -12,7 +12,7 @@ use lib.Seq.{drop-cons}
 use borrow.Author.Tests.{le-leb, lt-leb}
 use Rattle.num.proofs.Choice.{if-true, if-false}
 use Rattle.encoding.specs.Encoding.{bucketsOf}
-use Rattle.classes.specs.Internal.{startOf}
+use Rattle.classes.specs.Internal.{classStart}
 use Rattle.construction.specs.Construct.{Placement, bucketCount, keyBuckets, membersOf, sizeOf, orderOf, positionsOf, filled, pilotLimit, leastPilot, bucketPlaced, bucketPlacedFor, placeBucket, placeBuckets}
 use Rattle.construction.specs.Scratch.{membersAt, candidatesAt, orderAt, pilotsAt, slotsAt, placementIn}
 use Rattle.construction.specs.Internal.{Room, Arranged, servedAs}
@@ -131,7 +131,7 @@ module _ {hs s : List ℕ} (room : Room hs s) (st : Arranged hs s) (x : ℕ) (h 
     module _ (members : ℕ) (em : members ≡ membersAt (length hs)) where
       pub bucket-is : Bucket hs x (members + start) (end - start) s
       bucket-is =
-          let e : members + start ≡ membersAt (length hs) + startOf (keyBuckets hs) x = omega (arith, start-read st x h) in
+          let e : members + start ≡ membersAt (length hs) + classStart (keyBuckets hs) x = omega (arith, start-read st x h) in
           record {
             number = h;
             members = bucket-members st (room-fits room) x h (members + start) (end - start) e size-is;
