@@ -1,6 +1,6 @@
 /* The delivered interface for a linker or a loader: link libkiban.a (rt staticlib kiban).
- * A result is 0 or the number of document 01 for the first question that is answered with no; on a refusal nothing behind
- * a pointer changes but scratch. No entry allocates.
+ * A result is 0 or the number of document 01 for the first question that is answered with no (kiban_crc32 returns the CRC itself);
+ * on a refusal nothing behind a pointer changes but scratch. No entry allocates.
  * Memory that an entry writes (scratch, output, record, len, answer) must not overlap any other memory of the same call: the
  * proofs rest on it. What is only read may overlap. */
 #ifndef KIBAN_H
