@@ -15,6 +15,7 @@ use Rattle.encoding.specs.Encoding.{Bounded, group}
 use Rattle.builder.specs.declared.Builder.{Builder}
 use Rattle.area.specs.Area.{headLen, areaKeyLen, areaVersions, areaKey}
 use Rattle.builder.specs.Record.{anchorNext, sharedWith, totalsSmall, keyLies, standing, sizeable}
+use Rattle.builder.specs.Internal.{Countable}
 
 -- chains of questions with an alternative, as code with early returns walks them
 pub either-yes : (a b : Bool) → a ≡ true → true ≡ either a b
@@ -113,6 +114,19 @@ stood area b e =
       keyed = λ h. let f = both-true _ _ (either-second _ _ (e₂ .1) (ne-eqb (b .totals .keys) 0 (λ z. omega arith))) in
           let g = both-true _ _ (f .1) in
           record { last = lies area b (b .«last_key») (f .0); anchor = lies area b (b .anchor) (g .0); few = leb-true _ _ (g .1) };
+    }
+
+-- such a record can count one more entry
+pub countable : (area : List ℕ) (b : Builder) → standing area b ≡ true → Countable area b
+countable area b e =
+    let s = stood area b e in
+    record {
+      inside = s .inside;
+      keys = s .totals .keys;
+      versions = s .totals .versions;
+      suffix-bytes = s .totals .suffix-bytes;
+      used = s .totals .used;
+      anchor = λ h. s .keyed h .anchor .key-inside;
     }
 
 -- a key that is no anchor comes after another

@@ -7,7 +7,7 @@ ghost use lib.ListN.{length};
 ghost use Rattle.num.specs.Choice.{if_then_else_, either};
 ghost use Rattle.area.specs.Area.{areaVersions};
 ghost use Rattle.builder.specs.Record.{sharedWith, totalsAfter, builderAfter, totalsSmall, keyLies, standing, sizeable, sizeOfSection, sizedRead};
-ghost use Rattle.builder.specs.Internal.{RefusedWith};
+ghost use Rattle.builder.specs.Internal.{RefusedWith, Countable};
 use encoding::Encoding;
 use encoding::Totals;
 
@@ -176,7 +176,7 @@ pub fn refusal(
 
 // How many bytes a new key shares with the latest anchor.
 fn shared_with(area: &[u8], b: Builder, key: &[u8]) -> usize
-    requires { ⌜ standing (now area) b ≡ true ⌝ }
+    requires { ⌜ Countable (now area) b ⌝ }
     ensures { λ r. ⌜ r ≡ sharedWith (now (area .entry)) b (now (key .entry)) ⌝ }
 {
     let t = b.totals;
@@ -191,7 +191,7 @@ fn shared_with(area: &[u8], b: Builder, key: &[u8]) -> usize
 
 // How many bytes an entry adds to the suffixes.
 fn suffix_len(area: &[u8], b: Builder, key: &[u8], new_key: bool) -> u64
-    requires { ⌜ standing (now area) b ≡ true ⌝ }
+    requires { ⌜ Countable (now area) b ⌝ }
     ensures { λ r. ⌜ r ≡ (if «new_key» then length (now (key .entry)) - sharedWith (now (area .entry)) b (now (key .entry)) else 0) ⌝ }
 {
     if !new_key {
@@ -222,7 +222,7 @@ fn totals_after(
     offset: u64,
     new_key: bool,
 ) -> Totals
-    requires { ⌜ (standing (now area) b ≡ true) × (length (now key) ≤ 1048576) ⌝ }
+    requires { ⌜ Countable (now area) b × (length (now key) ≤ 1048576) ⌝ }
     ensures { λ r. ⌜ r ≡ totalsAfter (now (area .entry)) b (record { key = now (key .entry); count = count; size = size; seq = seq; offset = offset; new-key = «new_key» }) ⌝ }
 {
     let t = b.totals;
@@ -252,7 +252,7 @@ pub fn builder_after(
     offset: u64,
     new_key: bool,
 ) -> Builder
-    requires { ⌜ (standing (now area) b ≡ true) × (length (now key) ≤ 1048576) ⌝ }
+    requires { ⌜ Countable (now area) b × (length (now key) ≤ 1048576) ⌝ }
     ensures { λ r. ⌜ r ≡ builderAfter (now (area .entry)) b (record { key = now (key .entry); count = count; size = size; seq = seq; offset = offset; new-key = «new_key» }) ⌝ }
 {
     let t = b.totals;

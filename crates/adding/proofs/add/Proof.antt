@@ -1,6 +1,7 @@
 use mathlib.Core.Path.{sym, _∙_}
 use Rattle.builder.specs.Offer.{Offer}
 use Rattle.builder.specs.Add.{versionsWith}
+use Rattle.builder.proofs.Standing.{countable}
 use Rattle.builder.proofs.Asked.{like, key-limit, taken, taken-answer, refused-answer}
 use Rattle.adding.proofs.Entry.{counted-record}
 use borrow.Author.Needs.{needs}
@@ -32,7 +33,7 @@ builder-after-requires : tie.Need-builder-after-requires
 builder-after-requires c κs =
     let e = offer (c .before .before .before .before .before .before .before .before .before) in
     let p = taken _ _ e (sym (c .before .before .before .if1 .left) ∙ c .before .before .before .before .refusal .ensures e (like e)) in
-    (p .stands, key-limit _ _ (p .limits))
+    (countable _ _ (p .stands), key-limit _ _ (p .limits))
 
 put-entry-requires : tie.Need-put-entry-requires
 put-entry-requires c κs =

@@ -4,7 +4,7 @@ use native.Mathlib.Omega.{arith}
 use lib.ListN.{length}
 use Rattle.num.specs.Choice.{if_then_else_, both}
 use Rattle.builder.specs.Record.{anchorNext, builderAfter}
-use Rattle.builder.proofs.Standing.{stood, new-le}
+use Rattle.builder.proofs.Standing.{new-le}
 use borrow.Author.Needs.{needs}
 use Rattle.builder.proofs.builder_after.Statement.{statement}
 use Rattle.builder.proofs.builder_after.Tie as tie
@@ -21,9 +21,9 @@ entry-len-requires c κs = search needs
 add-t16 : tie.Need-add-t16
 add-t16 c =
     let k = c .before .before .before .before .before .before .before in
-    let s = stood _ _ (k .pre .0) in
+    let s = k .pre .0 in
     let h = new-le (k .args .new-key) (8 + length (k .args .key .now)) in
-    omega (arith, s .totals .used, k .pre .1, c .before .entry-len .ensures)
+    omega (arith, s .used, k .pre .1, c .before .entry-len .ensures)
 
 choose-requires : tie.Need-choose-requires
 choose-requires c κs = search needs

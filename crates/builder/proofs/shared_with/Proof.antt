@@ -7,7 +7,7 @@ use Rattle.num.specs.Order.{commonPrefixLen}
 use Rattle.num.proofs.Choice.{if-true, if-false}
 use Rattle.area.specs.Area.{areaKeyLen}
 use Rattle.builder.specs.Record.{anchorNext, sharedWith}
-use Rattle.builder.proofs.Standing.{stood, some-key, anchor-part}
+use Rattle.builder.proofs.Standing.{some-key, anchor-part}
 use borrow.Author.Needs.{needs}
 use Rattle.builder.proofs.shared_with.Statement.{statement}
 use Rattle.builder.proofs.shared_with.Tie as tie
@@ -21,15 +21,13 @@ returns c = sym (if-true _ _ _ (eq-eqb _ _ (c .if1 .taken)))
 
 add-from : tie.Need-add-from
 add-from c =
-    let s = stood _ _ (c .before .before .before .before .before .pre) in
-    let k = s .keyed (some-key _ (c .if1 .left)) in
-    omega (arith, k .anchor .head-inside, s .totals .used)
+    let s = c .before .before .before .before .before .pre in
+    omega (arith, s .anchor (some-key _ (c .if1 .left)), s .used)
 
 u32-at-requires : tie.Need-u32-at-requires
 u32-at-requires c κs =
-    let s = stood _ _ (c .before .before .before .before .before .pre) in
-    let k = s .keyed (some-key _ (c .if1 .left)) in
-    omega (arith, k .anchor .head-inside, s .inside)
+    let s = c .before .before .before .before .before .pre in
+    omega (arith, s .anchor (some-key _ (c .if1 .left)), s .inside)
 
 cast-end : tie.Need-cast-end
 cast-end c = search needs
@@ -37,9 +35,8 @@ cast-end c = search needs
 add-end : tie.Need-add-end
 unfolding areaKeyLen
 add-end c =
-    let s = stood _ _ (c .before .before .before .before .before .before .pre) in
-    let k = s .keyed (some-key _ (c .before .if1 .left)) in
-    omega (arith, k .anchor .key-inside, s .totals .used, c .u32-at .ensures)
+    let s = c .before .before .before .before .before .before .pre in
+    omega (arith, s .anchor (some-key _ (c .before .if1 .left)), s .used, c .u32-at .ensures)
 
 sub-common-prefix-len : tie.Need-sub-common-prefix-len
 sub-common-prefix-len c = search needs
@@ -50,9 +47,8 @@ part-common-prefix-len-start c = search needs
 part-common-prefix-len-end : tie.Need-part-common-prefix-len-end
 unfolding areaKeyLen
 part-common-prefix-len-end c =
-    let s = stood _ _ (c .before .before .before .before .before .before .pre) in
-    let k = s .keyed (some-key _ (c .before .if1 .left)) in
-    omega (arith, k .anchor .key-inside, s .inside, c .u32-at .ensures)
+    let s = c .before .before .before .before .before .before .pre in
+    omega (arith, s .anchor (some-key _ (c .before .if1 .left)), s .inside, c .u32-at .ensures)
 
 common-prefix-len-requires : tie.Need-common-prefix-len-requires
 common-prefix-len-requires c κs = search needs

@@ -5,7 +5,7 @@ use lib.ListN.{length}
 use lib.Dec.{eqb}
 use Rattle.num.specs.Choice.{if_then_else_}
 use Rattle.builder.specs.Record.{sharedWith, totalsAfter}
-use Rattle.builder.proofs.Standing.{stood, new-le}
+use Rattle.builder.proofs.Standing.{new-le}
 use borrow.Author.Needs.{needs}
 use Rattle.builder.proofs.totals_after.Statement.{statement}
 use Rattle.builder.proofs.totals_after.Tie as tie
@@ -21,14 +21,14 @@ choose-requires c κs = search needs
 
 add-t14 : tie.Need-add-t14
 add-t14 c =
-    let s = stood _ _ (c .before .before .before .before .before .before .before .pre .0) in
+    let s = c .before .before .before .before .before .before .before .pre .0 in
     let h = new-le (c .before .before .before .before .before .before .before .args .new-key) 1 in
-    omega (arith, s .totals .keys, c .before .choose .ensures)
+    omega (arith, s .keys, c .before .choose .ensures)
 
 add-t15 : tie.Need-add-t15
 add-t15 c =
-    let s = stood _ _ (c .before .before .before .before .before .before .before .before .pre .0) in
-    omega (arith, s .totals .versions)
+    let s = c .before .before .before .before .before .before .before .before .pre .0 in
+    omega (arith, s .versions)
 
 suffix-len-requires : tie.Need-suffix-len-requires
 suffix-len-requires c κs = search needs
@@ -36,9 +36,9 @@ suffix-len-requires c κs = search needs
 add-t17 : tie.Need-add-t17
 add-t17 c =
     let k = c .before .before .before .before .before .before .before .before .before .before in
-    let s = stood _ _ (k .pre .0) in
+    let s = k .pre .0 in
     let h = new-le (k .args .new-key) (length (k .args .key .now) - sharedWith (k .args .area .now) (k .args .b) (k .args .key .now)) in
-    omega (arith, s .totals .suffix-bytes, k .pre .1, c .before .suffix-len .ensures)
+    omega (arith, s .suffix-bytes, k .pre .1, c .before .suffix-len .ensures)
 
 choose-requires-2 : tie.Need-choose-requires-2
 choose-requires-2 c κs = search needs
