@@ -6,17 +6,14 @@ use mathlib.Core.Bool.{true, false}
 use Prim.Native.Nat.{ℕ, _+_, _-_, _<_, _≤_, _^_}
 use lib.ListN.{length, take, drop}
 use lib.Seq.{sets}
-use borrow.Author.Tests.{le-leb, lt-leb, leb-true, eq-eqb, ne-eqb}
+use borrow.Author.Tests.{le-leb, lt-leb, eq-eqb, ne-eqb}
 use Rattle.num.specs.Choice.{if_then_else_, either}
 use Rattle.sstable.specs.Kind.{kindNumber}
 use Rattle.block.specs.declared.Record.{Record}
 use Rattle.block.specs.declared.Stepped.{Stepped}
 use Rattle.block.specs.declared.Stepped.the-variants.{Met, Stopped}
 use Rattle.block.specs.Record.{recordAt}
-use Rattle.num.proofs.Choice.{both-true}
-use Rattle.encoding.specs.declared.Totals.{Totals}
-use Rattle.encoding.specs.Encoding.{Bounded}
-use Rattle.probe.specs.Probe.{noSlot, recordNumber, stepProbe, probedRecordWritten, keyWritten, bounded}
+use Rattle.probe.specs.Probe.{noSlot, recordNumber, stepProbe, probedRecordWritten, keyWritten}
 
 pub no-slots : (pilot n : ℕ) → n ≡ 0 → noSlot pilot n ≡ true
 unfolding noSlot either
@@ -62,23 +59,3 @@ module _ (raw : List ℕ) (pos : ℕ) (t : Stepped) (fields scratch : List ℕ) 
   probe-met r k e h n =
       let f = le-leb (r .«key_len») (length scratch) h in
       (rw (e, f), rw (e, f, n), rw (e, f))
-
--- totals that pass size's question 37 are bounded
-pub bounded-facts : (t : Totals) → bounded t ≡ true → Bounded t
-unfolding bounded
-bounded-facts t e =
-    let e₁ = both-true _ _ e in
-    let e₂ = both-true _ _ (e₁ .1) in
-    let e₃ = both-true _ _ (e₂ .1) in
-    let e₄ = both-true _ _ (e₃ .1) in
-    let e₅ = both-true _ _ (e₄ .1) in
-    let e₆ = both-true _ _ (e₅ .1) in
-    record {
-      keys = leb-true _ _ (e₁ .0);
-      versions = leb-true _ _ (e₂ .0);
-      suffix-bytes = leb-true _ _ (e₃ .0);
-      max-key-len = leb-true _ _ (e₄ .0);
-      max-value-len = leb-true _ _ (e₅ .0);
-      max-versions = leb-true _ _ (e₆ .0);
-      seqs = leb-true _ _ (e₆ .1);
-    }

@@ -17,7 +17,9 @@ use Rattle.block.specs.declared.Stepped.the-variants.{Met, Stopped}
 use Rattle.block.specs.Record.{recordAt}
 use Rattle.point.specs.Hash.{bucketOf, positionOf, slotOf}
 use Rattle.encoding.specs.declared.Totals.{Totals}
-use Rattle.encoding.specs.Encoding.{encodingOf, sectionLenOf}
+use Rattle.builder.specs.declared.Sized.{Sized}
+use Rattle.builder.specs.declared.Sized.the-variants.{Bytes, Refused}
+use Rattle.builder.specs.Record.{sizeOfSection, sizedRead}
 
 -- 0 where the number of buckets is 0
 unfoldable pub bucketProbe : ℕ → ℕ → ℕ
@@ -76,20 +78,13 @@ totalsOf n =
       «last_value_offset» = getD n 8 0;
     }
 
--- size's question 37 of totals
-unfoldable pub bounded : Totals → Bool
-bounded t =
-    both (leb (t .keys) (2 ^ 30))
-    (both (leb (t .versions) (2 ^ 30))
-    (both (leb (t .«suffix_bytes») (2 ^ 30))
-    (both (leb (t .«max_key_len») (2 ^ 30))
-    (both (leb (t .«max_value_len») (2 ^ 30))
-    (both (leb (t .«max_versions») (2 ^ 30))
-    (leb (t .«min_seq») (t .«max_seq»)))))))
+-- the section's length of a builder with these totals, 0 if size refuses them
+unfoldable pub sizeProbe : Sized → ℕ
+sizeProbe (Bytes n) = n
+sizeProbe (Refused n) = 0
 
--- the section's length, 0 for totals that size refuses
 unfoldable pub lengthProbe : Totals → ℕ → ℕ
-lengthProbe t prefix = if bounded t then sectionLenOf (encodingOf t) t prefix else 0
+lengthProbe t prefix = sizeProbe (sizedRead (sizeOfSection (record { totals = t; used = 0; «last_key» = 0; anchor = 0 }) prefix))
 
 -- 0, or 40
 unfoldable pub constructNumber : Answer Constructed → ℕ
@@ -108,5 +103,5 @@ placedAs (refused n) t = Unit {0}
 
 -- for proofs alone: `unfolding probe-defs` opens the definitions of this file
 unfoldable pub probe-defs : ℕ
-unfolding bucketProbe noSlot positionProbe slotProbe metaWritten recordNumber stepProbe probedRecordWritten keyWritten totalsOf bounded lengthProbe constructNumber seedWritten placedAs
+unfolding bucketProbe noSlot positionProbe slotProbe metaWritten recordNumber stepProbe probedRecordWritten keyWritten totalsOf sizeProbe lengthProbe constructNumber seedWritten placedAs
 probe-defs = 0

@@ -23,7 +23,6 @@ ghost use Rattle.probe.specs.Probe.{
   probedRecordWritten,
   keyWritten,
   totalsOf,
-  bounded,
   lengthProbe,
   constructNumber,
   seedWritten,
@@ -31,13 +30,11 @@ ghost use Rattle.probe.specs.Probe.{
 };
 use block::Stepped;
 use block::Verified;
+use builder::Builder;
+use builder::Sized;
 use construct::Built;
-use encoding::Encoding;
 use encoding::Totals;
 use sstable::Trailer;
-
-// The bound of size's question 37.
-const MOST: u64 = 1 << 30;
 
 #[no_mangle]
 pub extern "C" fn probe_crc32_update(state: u32, data: &[u8]) -> u32
@@ -112,30 +109,6 @@ pub extern "C" fn probe_width(max: u64) -> u64
     encoding::width(max) as u64
 }
 
-fn bounded(t: Totals) -> bool
-    ensures { λ r. ⌜ r ≡ bounded t ⌝ }
-{
-    if t.keys > MOST {
-        return false;
-    }
-    if t.versions > MOST {
-        return false;
-    }
-    if t.suffix_bytes > MOST {
-        return false;
-    }
-    if t.max_key_len > MOST {
-        return false;
-    }
-    if t.max_value_len > MOST {
-        return false;
-    }
-    if t.max_versions > MOST {
-        return false;
-    }
-    t.min_seq <= t.max_seq
-}
-
 #[no_mangle]
 pub extern "C" fn probe_section_len(totals: &[u64; 9], prefix: u64) -> u64
     ensures { λ r. ⌜ r ≡ lengthProbe (totalsOf (now (totals .entry))) prefix ⌝ }
@@ -151,10 +124,17 @@ pub extern "C" fn probe_section_len(totals: &[u64; 9], prefix: u64) -> u64
         max_versions: totals[7],
         last_value_offset: totals[8],
     };
-    if !bounded(t) {
-        return 0;
+    let b = Builder {
+        totals: t,
+        used: 0,
+        last_key: 0,
+        anchor: 0,
+    };
+    let size = builder::size(b, prefix);
+    match size {
+        Sized::Bytes(n) => n,
+        Sized::Refused(n) => 0,
     }
-    Encoding::for_builder(t).section_len(t, prefix as usize) as u64
 }
 
 #[no_mangle]

@@ -1,77 +1,68 @@
-use mathlib.Core.Path.{sym, _∙_, subst⁻¹}
-use borrow.Author.Tests.{not-true, not-false}
-use Rattle.num.specs.Choice.{if_then_else_}
-use Rattle.encoding.specs.Encoding.{Widths}
-use Rattle.encoding.proofs.Widths.{encodingOf-widths}
-use Rattle.probe.specs.Probe.{lengthProbe, totalsOf}
-use Rattle.probe.proofs.Probing.{bounded-facts}
+use mathlib.Core.Path.{sym, _∙_}
+use Rattle.probe.specs.Probe.{lengthProbe, sizeProbe, totalsOf}
 use borrow.Author.Needs.{needs}
 use Rattle.probe.proofs.probe_section_len.Statement.{statement}
 use Rattle.probe.proofs.probe_section_len.Tie as tie
 
-element-copy-out-t6 : tie.Need-element-copy-out-t6
-element-copy-out-t6 c = search needs
+element-copy-out-t10 : tie.Need-element-copy-out-t10
+element-copy-out-t10 c = search needs
 
-element-copy-out-t9 : tie.Need-element-copy-out-t9
-element-copy-out-t9 c = search needs
+element-copy-out-t13 : tie.Need-element-copy-out-t13
+element-copy-out-t13 c = search needs
 
-element-copy-out-t12 : tie.Need-element-copy-out-t12
-element-copy-out-t12 c = search needs
+element-copy-out-t16 : tie.Need-element-copy-out-t16
+element-copy-out-t16 c = search needs
 
-element-copy-out-t15 : tie.Need-element-copy-out-t15
-element-copy-out-t15 c = search needs
+element-copy-out-t19 : tie.Need-element-copy-out-t19
+element-copy-out-t19 c = search needs
 
-element-copy-out-t18 : tie.Need-element-copy-out-t18
-element-copy-out-t18 c = search needs
+element-copy-out-t22 : tie.Need-element-copy-out-t22
+element-copy-out-t22 c = search needs
 
-element-copy-out-t21 : tie.Need-element-copy-out-t21
-element-copy-out-t21 c = search needs
+element-copy-out-t25 : tie.Need-element-copy-out-t25
+element-copy-out-t25 c = search needs
 
-element-copy-out-t24 : tie.Need-element-copy-out-t24
-element-copy-out-t24 c = search needs
+element-copy-out-t28 : tie.Need-element-copy-out-t28
+element-copy-out-t28 c = search needs
 
-element-copy-out-t27 : tie.Need-element-copy-out-t27
-element-copy-out-t27 c = search needs
+element-copy-out-t31 : tie.Need-element-copy-out-t31
+element-copy-out-t31 c = search needs
 
-element-copy-out-t30 : tie.Need-element-copy-out-t30
-element-copy-out-t30 c = search needs
+element-copy-out-t34 : tie.Need-element-copy-out-t34
+element-copy-out-t34 c = search needs
 
-bounded-requires : tie.Need-bounded-requires
-bounded-requires c κs = search needs
+size-requires : tie.Need-size-requires
+size-requires c κs = search needs
+
+enum-known-size : tie.Need-enum-known-size
+enum-known-size c = search needs
+
+enum-known-size-2 : tie.Need-enum-known-size-2
+enum-known-size-2 c = search needs
 
 returns : tie.Need-returns
-unfolding lengthProbe totalsOf if_then_else_
-returns c = rw (sym (c .before .bounded .ensures) ∙ not-true _ (c .if1 .taken))
-
-for-builder-requires : tie.Need-for-builder-requires
-for-builder-requires c κs = bounded-facts _ (sym (c .before .bounded .ensures) ∙ not-false _ (c .if1 .left))
-
-section-len-requires : tie.Need-section-len-requires
-section-len-requires c κs =
-    let b = bounded-facts _ (sym (c .before .before .bounded .ensures) ∙ not-false _ (c .before .if1 .left)) in
-    (subst⁻¹ Widths (c .for-builder .ensures) (encodingOf-widths _ b), b)
+unfolding lengthProbe sizeProbe totalsOf
+returns c = rw (sym (c .before .before .before .size .ensures) ∙ c .before .size2 .given .1)
 
 returns-2 : tie.Need-returns-2
-unfolding lengthProbe totalsOf if_then_else_
-returns-2 c =
-    let e = sym (c .before .before .before .bounded .ensures) ∙ not-false _ (c .before .before .if1 .left) in
-    c .section-len .ensures ∙ rw (e, c .before .for-builder .ensures)
+unfolding lengthProbe sizeProbe totalsOf
+returns-2 c = rw (sym (c .before .before .before .size .ensures) ∙ c .before .size3 .given .1)
 
 pub probe-section-len-spec : {M : Type 1} → statement M
 probe-section-len-spec =
     tie.close
     (tie.spec
-    element-copy-out-t6
-    element-copy-out-t9
-    element-copy-out-t12
-    element-copy-out-t15
-    element-copy-out-t18
-    element-copy-out-t21
-    element-copy-out-t24
-    element-copy-out-t27
-    element-copy-out-t30
-    bounded-requires
+    element-copy-out-t10
+    element-copy-out-t13
+    element-copy-out-t16
+    element-copy-out-t19
+    element-copy-out-t22
+    element-copy-out-t25
+    element-copy-out-t28
+    element-copy-out-t31
+    element-copy-out-t34
+    size-requires
+    enum-known-size
+    enum-known-size-2
     returns
-    for-builder-requires
-    section-len-requires
     returns-2)
