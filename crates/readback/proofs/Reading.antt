@@ -13,10 +13,12 @@ use borrow.Author.Count.{below-more}
 use borrow.Author.Tests.{leb-true, ltb-true, eqb-true, eq-eqb}
 use Rattle.num.specs.Choice.{if_then_else_, both, oneOf}
 use Rattle.num.proofs.Choice.{false-true, both-true, if-first, if-case}
+use Rattle.sstable.specs.Limits.{maxKeyBytes, maxValueBytes, withinLimits}
 use Rattle.encoding.specs.declared.Totals.{Totals}
 use Rattle.builder.specs.declared.Builder.{Builder}
-use Rattle.area.specs.Area.{headLen, areaVersionLen, areaKeyLen, areaVersions, areaKey, areaKind, firstVersionAt, nextHead}
+use Rattle.area.specs.Area.{headLen, areaVersionLen, areaKeyLen, areaVersions, areaKey, areaKind, areaSize, areaOffset, firstVersionAt, nextHead}
 use Rattle.builder.specs.Record.{emptyBuilder, anchorNext, totalsAfter, builderAfter}
+use Rattle.builder.specs.Add.{maxKeys}
 use Rattle.builder.proofs.Standing.{some-key}
 use Rattle.readback.specs.ReadBack.{countedAt, versionRead, versionsRead, versionsReadFor, keyRead, keysRead, areaRead, sameTotals, readsBackFor, readsBack}
 use Rattle.readback.specs.Places.{areaVersionAt, headAt, AreaKeyStands, AreaStands}
@@ -28,24 +30,37 @@ none-some q e = let z : _≡_ {A = ℕ} 0 1 = cc in omega arith
 -- ---- a version
 
 -- what its questions say of a version that was read
-record VersionStands (area : List ℕ) (end : ℕ) (r : Builder) (head place count : ℕ) (new : Bool) (q : Builder) : Type 0 where
-  inside : place + areaVersionLen ≤ end
-  kind : oneOf (1 ∷ 2 ∷ []) (areaKind area place) ≡ true
-  after : q ≡ builderAfter area r (countedAt area head place count new)
+pub record VersionStands (area : List ℕ) (end : ℕ) (r : Builder) (head place count : ℕ) (new : Bool) (q : Builder) : Type 0 where
+  pub inside : place + areaVersionLen ≤ end
+  pub kind : oneOf (1 ∷ 2 ∷ []) (areaKind area place) ≡ true
+  pub key-limit : areaKeyLen area head ≤ maxKeyBytes
+  pub value-limit : areaSize area place ≤ maxValueBytes
+  pub offset : r .totals .«last_value_offset» ≤ areaOffset area place
+  pub few : r .totals .keys + (if new then 1 else 0) ≤ maxKeys
+  pub after : q ≡ builderAfter area r (countedAt area head place count new)
 
-version-stands : (area : List ℕ) (end : ℕ) (r : Builder) (head place count : ℕ) (new : Bool) (q : Builder)
+pub version-stands : (area : List ℕ) (end : ℕ) (r : Builder) (head place count : ℕ) (new : Bool) (q : Builder)
     → versionRead area end r head place count new ≡ some q → VersionStands area end r head place count new q
-unfolding versionRead
+unfolding versionRead withinLimits
 version-stands area end r head place count new q e =
     let p₀ = if-first _ _ _ _ (none-some q) e in
     let p₁ = if-first _ _ _ _ (none-some q) (p₀ .1) in
     let p₂ = if-first _ _ _ _ (none-some q) (p₁ .1) in
     let p₃ = if-first _ _ _ _ (none-some q) (p₂ .1) in
     let p₄ = if-first _ _ _ _ (none-some q) (p₃ .1) in
-    record { inside = leb-true _ _ (p₀ .0); kind = p₁ .0; after = cc (p₄ .1) }
+    let l = both-true _ _ (p₂ .0) in
+    record {
+      inside = leb-true _ _ (p₀ .0);
+      kind = p₁ .0;
+      key-limit = leb-true _ _ (l .0);
+      value-limit = leb-true _ _ (l .1);
+      offset = leb-true _ _ (p₃ .0);
+      few = leb-true _ _ (p₄ .0);
+      after = cc (p₄ .1);
+    }
 
 -- a key that lies in the area has its bytes
-length-key : (area : List ℕ) (head : ℕ) → head + headLen + areaKeyLen area head ≤ length area → length (areaKey area head) ≡ areaKeyLen area head
+pub length-key : (area : List ℕ) (head : ℕ) → head + headLen + areaKeyLen area head ≤ length area → length (areaKey area head) ≡ areaKeyLen area head
 unfolding areaKey
 length-key area head i = simp (length-take, length-drop) (omega arith)
 
@@ -90,7 +105,7 @@ module _ (area : List ℕ) (end : ℕ) (r : Builder) (h : Running area end r) wh
 -- ---- the further versions of a key
 
 -- what goes on after a reading that gave a record
-follows : (o : Option Builder) (next : Builder → Option Builder) (q : Builder) → elim o [ some p ↦ next p | none ↦ none ] ≡ some q
+pub follows : (o : Option Builder) (next : Builder → Option Builder) (q : Builder) → elim o [ some p ↦ next p | none ↦ none ] ≡ some q
     → (p : Builder) × (o ≡ some p) × (next p ≡ some q)
 follows none next q e = absurd (none-some q e)
 follows (some p) next q e = (p, refl, e)
@@ -120,7 +135,7 @@ record VersionsStand (area : List ℕ) (end : ℕ) (r : Builder) (left : ℕ) (q
   kinds : (j : ℕ) → j < left → oneOf (1 ∷ 2 ∷ []) (areaKind area (r .used + areaVersionLen * j)) ≡ true
 
 -- what holds of the first version and of those behind it holds of each
-first-more : (P : ℕ → Type 0) (at left : ℕ) → P at → ((j : ℕ) → j < left → P (at + areaVersionLen + areaVersionLen * j))
+pub first-more : (P : ℕ → Type 0) (at left : ℕ) → P at → ((j : ℕ) → j < left → P (at + areaVersionLen + areaVersionLen * j))
     → (j : ℕ) → j < suc left → P (at + areaVersionLen * j)
 first-more P at left k ks zero l =
     let e : at + areaVersionLen * 0 ≡ at = omega arith in
@@ -187,20 +202,33 @@ unfolding versionsReadFor
 versions-follow left area end none q e = absurd (none-some q e)
 versions-follow left area end (some p) q e = (p, refl, e)
 
-pub key-stands : (area : List ℕ) (end : ℕ) (r q : Builder) → end ≤ length area → Running area end r → keyRead area end r ≡ some q → KeyReadStands area end r q
-unfolding keyRead nextHead firstVersionAt areaVersionAt
-key-stands area end r q l h e =
+-- its first version gave a record, and its further ones behind that gave what came out
+pub record KeyParts (area : List ℕ) (end : ℕ) (r q : Builder) : Type 0 where
+  pub some-version : 0 < areaVersions area (r .used)
+  pub behind : Builder
+  pub one : versionRead area end r (r .used) (r .used + headLen + areaKeyLen area (r .used)) 1 true ≡ some behind
+  pub more : versionsRead (areaVersions area (r .used) - 1) area end behind 1 ≡ some q
+
+pub key-parts : (area : List ℕ) (end : ℕ) (r q : Builder) → keyRead area end r ≡ some q → KeyParts area end r q
+unfolding keyRead
+key-parts area end r q e =
     let p₀ = if-first _ _ _ _ (none-some q) e in
     let p₁ = if-first _ _ _ _ (none-some q) (p₀ .1) in
     let p₂ = if-first _ _ _ _ (none-some q) (p₁ .1) in
+    let f = versions-follow (areaVersions area (r .used) - 1) area end (versionRead area end r (r .used) (r .used + headLen + areaKeyLen area (r .used)) 1 true) q (p₂ .1) in
+    record { some-version = ltb-true 0 (areaVersions area (r .used)) (p₂ .0); behind = f .0; one = f .1; more = f .2 }
+
+pub key-stands : (area : List ℕ) (end : ℕ) (r q : Builder) → end ≤ length area → Running area end r → keyRead area end r ≡ some q → KeyReadStands area end r q
+unfolding nextHead firstVersionAt areaVersionAt
+key-stands area end r q l h e =
+    let f = key-parts area end r q e in
     let at = r .used + headLen + areaKeyLen area (r .used) in
     let left = areaVersions area (r .used) - 1 in
-    let f = versions-follow left area end (versionRead area end r (r .used) at 1 true) q (p₂ .1) in
-    let n = ltb-true 0 (areaVersions area (r .used)) (p₂ .0) in
-    let s = version-stands area end r (r .used) at 1 true (f .0) (f .1) in
-    let u = first area end r (areaKeyLen area (r .used)) 1 (f .0) refl l h (f .1) in
-    let v = versions-stand left area end (f .0) 1 q (u .running) (f .2) in
-    let behind : at + areaVersionLen ≡ f .0 .used = omega (arith, u .used) in
+    let n = f .some-version in
+    let s = version-stands area end r (r .used) at 1 true (f .behind) (f .one) in
+    let u = first area end r (areaKeyLen area (r .used)) 1 (f .behind) refl l h (f .one) in
+    let v = versions-stand left area end (f .behind) 1 q (u .running) (f .more) in
+    let behind : at + areaVersionLen ≡ f .behind .used = omega (arith, u .used) in
     record {
       running = v .running;
       used = omega (arith, u .used, v .used);
@@ -232,29 +260,32 @@ one-more area end r q s (u, ks) =
       λ i l. below-more (λ (j : ℕ). AreaKeyStands area end (headAt area j)) (r .totals .keys) ks (subst⁻¹ (AreaKeyStands area end) u (s .stands)) i (omega arith),
     )
 
-keys-stand : (most : ℕ) (area : List ℕ) (end : ℕ) (r q : Builder) → end ≤ length area → Running area end r → KeysBefore area end r
-    → keysRead most area end r ≡ some q → (q .used ≡ end) × AreaStands area end (q .totals .keys)
-unfolding keysRead KeysBefore
-keys-stand zero area end r q l h b e = absurd (none-some q e)
-keys-stand (suc most) area end r q l h b e = go (leb end (r .used)) refl e (λ p. keys-stand most area end p q l)
+-- what each key keeps holds of the record that comes out, behind the end
+pub keys-kept : (P : Builder → Type 0) (most : ℕ) (area : List ℕ) (end : ℕ) → ((p s : Builder) → P p → keyRead area end p ≡ some s → P s)
+    → (r q : Builder) → P r → keysRead most area end r ≡ some q → P q × (end ≤ q .used)
+unfolding keysRead
+keys-kept P zero area end step r q h e = absurd (none-some q e)
+keys-kept P (suc most) area end step r q h e = go (leb end (r .used)) refl e (λ p. keys-kept P most area end step p q)
   where
     go : (t : Bool) → leb end (r .used) ≡ t → elim t [ true ↦ some r | false ↦ elim (keyRead area end r) [ some q ↦ keysRead most area end q | none ↦ none ] ] ≡ some q
-        → ((p : Builder) → Running area end p → KeysBefore area end p → keysRead most area end p ≡ some q → (q .used ≡ end) × AreaStands area end (q .totals .keys))
-        → (q .used ≡ end) × AreaStands area end (q .totals .keys)
+        → ((p : Builder) → P p → keysRead most area end p ≡ some q → P q × (end ≤ q .used)) → P q × (end ≤ q .used)
     go true f g rest =
         let z : r ≡ q = cc in
-        let u : r .used ≡ end = omega (arith, leb-true end (r .used) f) in
-        subst⁻¹ (λ (x : Builder). (x .used ≡ end) × AreaStands area end (x .totals .keys)) (sym z) (u, record { each = b .1; to-the-end = b .0 ∙ u })
+        subst⁻¹ (λ (x : Builder). P x × (end ≤ x .used)) (sym z) (h, leb-true end (r .used) f)
     go false f g rest =
         let p = follows (keyRead area end r) (λ p. keysRead most area end p) q g in
-        let k = key-stands area end r (p .0) l h (p .1) in
-        rest (p .0) (k .running) (one-more area end r (p .0) k b) (p .2)
+        rest (p .0) (step r (p .0) h (p .1)) (p .2)
 
 -- an area that reads back: it is used up to the end, and the keys stand one behind the other
 pub area-stands : (area : List ℕ) (end : ℕ) (r : Builder) → end ≤ length area → areaRead area end ≡ some r
     → (r .used ≡ end) × AreaStands area end (r .totals .keys)
 unfolding areaRead KeysBefore headAt emptyBuilder
-area-stands area end r l e = keys-stand (suc end) area end emptyBuilder r l (empty-running area end) (refl, λ i k. absurd (omega arith)) e
+area-stands area end r l e =
+    let k = keys-kept (λ (p : Builder). Running area end p × KeysBefore area end p) (suc end) area end
+    (λ p s (h, b) f. let t = key-stands area end p s l h f in (t .running, one-more area end p s t b))
+    emptyBuilder r (empty-running area end, (refl, λ i k. absurd (omega arith))) e in
+    let u : r .used ≡ end = omega (arith, k .0 .0 .inside, k .1) in
+    (u, record { each = k .0 .1 .1; to-the-end = k .0 .1 .0 ∙ u })
 
 -- ---- the record
 

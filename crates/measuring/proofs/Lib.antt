@@ -1,0 +1,4 @@
+pub mod Totals
+pub mod Groups
+pub mod Reading
+pub mod Measured
