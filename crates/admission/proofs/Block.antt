@@ -11,9 +11,9 @@ use Rattle.block.specs.declared.Verified.the-variants.{Sound, Unsound}
 use Rattle.block.specs.Verify.{verifyOf, SoundBlock}
 use Rattle.block.specs.Walk.{WalkEnd, atEnd, stopped, recordsOf}
 use Rattle.block.proofs.Sound.{sound-exactly}
-use Rattle.validate.specs.Walk.{Inputs, Progress, entriesFrom, walkEnded, recordsAsked}
+use Rattle.validate.specs.Walk.{Inputs, Progress, placed, entriesFrom, walkEnded, recordsAsked}
 use Rattle.opening.specs.Open.{blockBytes, blockFor, blockAsked}
-use Rattle.admission.specs.Blocks.{blockEntries}
+use Rattle.admission.specs.Blocks.{inData, blockEntries}
 
 -- a block is sound, and the walk of its records reaches the end of its entries
 pub record WholeBlock (raw : List ℕ) : Type 0 where
@@ -32,7 +32,7 @@ module _ (t : Inputs) (offset len : ℕ) (p q : Progress) where
 
   passed-for : (v : Verified) → verifyOf raw ≡ v → blockFor t offset p raw v ≡ given q
       → WholeBlock raw × (entriesFrom t p (blockEntries (t .backing) offset len) ≡ given q)
-  unfolding blockFor recordsAsked blockEntries raw
+  unfolding blockFor recordsAsked blockEntries inData placed raw
   passed-for Unsound e h = absurd (let z : _≡_ {A = ℕ} 0 1 = cc in omega arith)
   passed-for (Sound m) e h =
       let w = ended-given (recordsOf raw .ended) _ q h in
@@ -47,7 +47,7 @@ module _ (t : Inputs) (offset len : ℕ) (p q : Progress) where
   -- and conversely
   pub passed-block : WholeBlock (blockBytes (t .backing) offset len) → entriesFrom t p (blockEntries (t .backing) offset len) ≡ given q
       → blockAsked t offset len p ≡ given q
-  unfolding blockAsked blockFor recordsAsked walkEnded blockEntries raw
+  unfolding blockAsked blockFor recordsAsked walkEnded blockEntries inData placed raw
   passed-block w e =
       let m = w .sound .0 in
       ap (blockFor t offset p raw) (sound-exactly raw m .1 (w .sound .1))

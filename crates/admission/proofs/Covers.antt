@@ -145,8 +145,10 @@ covers-exactly «data» blocks = (to, from)
           even = p .even;
           begins = λ i h. p .each i h .begins ∙ start-zero blocks i;
           finishes = λ i h. p .each i h .finishes;
-          sound = λ i h. p .each i h .block .sound;
-          walked = λ i h m b. stands-exactly (blockAt «data» blocks i) m b .0 (p .each i h .block .walked);
+          sound = λ i h.
+              let b = p .each i h .block in
+              let m = b .sound in
+              (m .0, m .1, stands-exactly (blockAt «data» blocks i) (m .0) (m .1) .0 (b .walked));
           whole = sym (start-zero blocks (length blocks / 2)) ∙ p .whole;
         }
 
@@ -161,7 +163,7 @@ covers-exactly «data» blocks = (to, from)
                 finishes = c .finishes i h;
                 block =
                     let b = c .sound i h in
-                    record { sound = b; walked = stands-exactly (blockAt «data» blocks i) (b .0) (b .1) .1 (c .walked i h (b .0) (b .1)) };
+                    record { sound = (b .0, b .1); walked = stands-exactly (blockAt «data» blocks i) (b .0) (b .1) .1 (b .2) };
               };
           whole = start-zero blocks (length blocks / 2) ∙ c .whole;
         })

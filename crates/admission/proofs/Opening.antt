@@ -3,10 +3,10 @@
 use mathlib.Core.Path.{_≡_, refl, ap, _∙_, subst}
 use mathlib.Core.Bool.{true}
 use mathlib.Core.List.{List}
-use Prim.Native.Nat.{ℕ, _+_, _*_, _<_}
+use Prim.Native.Nat.{ℕ, _+_, _*_, _^_, _<_}
 use native.Mathlib.Omega.{arith}
 use lib.ListN.{length}
-use borrow.Author.Tests.{eqb-true, eq-eqb, lt-ltb, not-false}
+use borrow.Author.Tests.{eqb-true, eq-eqb, leb-true, le-leb, lt-ltb, not-false}
 use Rattle.num.specs.Number.{leAt}
 use Rattle.num.proofs.Choice.{both-true, second-either, if-first, if-true}
 use Rattle.num.proofs.Steps.{yes-each}
@@ -29,6 +29,7 @@ use Rattle.opening.proofs.Pilots.{pilots-each, pilot-slot}
 use Rattle.agreement.specs.Agrees.{Agrees}
 use Rattle.agreement.proofs.Walk.{accepted-exactly}
 use Rattle.admission.specs.Blocks.{Covers, storeEntries}
+use Rattle.admission.specs.Layout.{pilotNumber}
 use Rattle.admission.specs.Admits.{PilotsInside, Admits, OpensExactly}
 use Rattle.admission.proofs.Pairs.{pairs-exactly}
 
@@ -40,6 +41,17 @@ yes-pilot : (s : List ℕ) (o : Opened) (k : ℕ)
     → (isDirect (leAt s (headerLen + 4 * k) 4) ≡ true → directSlot (leAt s (headerLen + 4 * k) 4) < o .count) → pilotInside s o k ≡ true
 unfolding pilotInside
 yes-pilot s o k h = second-either _ _ (λ d. lt-ltb _ _ (h (not-false _ d)))
+
+-- question 10 of all pilots, both ways: a direct one names a slot below n
+pub named-slot : (s : List ℕ) (o : Opened) → PilotsInside s o → (k : ℕ) → k < o .buckets → isDirect (leAt s (headerLen + 4 * k) 4) ≡ true
+    → directSlot (leAt s (headerLen + 4 * k) 4) < o .count
+unfolding pilotNumber isDirect directSlot
+named-slot s o p k h d = p .direct k h (leb-true (2 ^ 31) (leAt s (64 + 4 * k) 4) d)
+
+pilots-named : (s : List ℕ) (o : Opened) → pilotsInside s o ≡ true → PilotsInside s o
+unfolding pilotNumber isDirect directSlot
+pilots-named s o e =
+    record { direct = λ k h d. pilot-slot s o k (pilots-each s o e k h) (le-leb (2 ^ 31) (leAt s (64 + 4 * k) 4) d) }
 
 ends-data : (t : Inputs) (at : ℕ) (c : Cursor) → endsTogether t at c ≡ true → at ≡ length (t .backing)
 unfolding endsTogether
@@ -85,7 +97,7 @@ contents-asks s «data» blocks scratch o p e =
     let w = pairs-exactly t blocks (startOf o) q .0 (f .through ∙ ap (λ (n : ℕ). given (record { at = n; progress = q })) d) in
     let g = accepted-exactly s «data» scratch o (storeEntries «data» blocks) (f .last .at) .0 (q, w .1, f .together, f .counted) in (
       record {
-        pilots = record { direct = λ k h. pilot-slot s o k (pilots-each s o (e₁ .0) k h) };
+        pilots = pilots-named s o (e₁ .0);
         covers = w .0;
         agrees = g .1;
       },
@@ -99,7 +111,7 @@ asks-contents s «data» blocks scratch o c =
     let t = inputsOf s «data» scratch o in
     let g = accepted-exactly s «data» scratch o (storeEntries «data» blocks) (length «data») .1 (refl, c .agrees) in
     let w = pairs-exactly t blocks (startOf o) (g .0) .1 (c .covers, g .1) in
-    if-true _ _ _ (yes-each (pilotInside s o) (o .buckets) (λ k h. yes-pilot s o k (c .pilots .direct k h)))
+    if-true _ _ _ (yes-each (pilotInside s o) (o .buckets) (λ k h. yes-pilot s o k (named-slot s o (c .pilots) k h)))
     ∙ if-true _ _ _ (eq-eqb _ _ (c .covers .even))
     ∙ ap (endFor t) w
     ∙ finish t (record { at = length «data»; progress = g .0 }) (g .2) (g .3)

@@ -1,22 +1,33 @@
 -- A packed opening accepts exactly what the written rules admit, and gives the packed record and the packed bytes.
 -- Assumes nothing.
-use mathlib.Core.Path.{_≡_, refl, sym, ap, _∙_}
+use mathlib.Core.Path.{_≡_, refl, sym, ap, _∙_, subst, subst⁻¹}
 use mathlib.Core.Bool.{true}
 use mathlib.Core.List.{List}
-use Prim.Native.Nat.{ℕ, _^_, _<_}
+use Prim.Native.Nat.{ℕ, _+_, _*_, _-_, _%_, _^_, _<_, _≤_}
 use native.Mathlib.Omega.{arith}
-use borrow.Author.Tests.{ltb-true, lt-ltb, leb-true, le-leb}
-use Rattle.num.proofs.Choice.{both-true, true-both, if-first, if-true}
+use borrow.Author.Tests.{ltb-true, lt-ltb, leb-true, le-leb, lt-leb}
+use lib.Dec.{leb}
+use lib.ListN.{length, take, drop}
+use Rattle.num.specs.Number.{leAt}
+use Rattle.num.proofs.Choice.{both-true, true-both, if-first, if-true, if-false}
 use Rattle.num.proofs.Steps.{each-yes, yes-each}
+use Rattle.point.specs.Hash.{isDirect, directSlot}
 use Rattle.header.specs.declared.Opened.{Opened}
 use Rattle.header.specs.declared.HeaderRead.{HeaderRead}
 use Rattle.header.specs.declared.HeaderRead.the-variants.{Accepted, Refused}
 use Rattle.header.specs.Header.{fitsPacked, packedRecord}
+use Rattle.header.specs.Facts.{Header, fromPlain}
+use Rattle.header.proofs.Bounds.{arena-end}
 use Rattle.opening.specs.Open.{contentsOf, checkedHeaderOf}
 use Rattle.num.specs.Answer.{refused}
 use Rattle.packing.specs.Packing.{PackedForm, packedAs, pilotPacks, pilotsPack, packedFor, packOf, packFor, openPackedOf}
-use Rattle.packed.specs.Packed.{pilotAt, packedBytes}
-use Rattle.admission.specs.Admits.{PilotsPack, AdmitsPacked, PackedFrom, PacksExactly}
+use Rattle.packed.specs.Packed.{pilotAt, packPilot, packedBytes}
+use Rattle.packed.proofs.Lengths.{length-packed}
+use Rattle.packed.proofs.Bytes.{packed-header, packed-pilot, packed-address, packed-part, packed-last}
+use Rattle.agreement.specs.Keys.{keyRecordsEnd}
+use Rattle.agreement.proofs.Same.{end-is}
+use Rattle.admission.specs.Layout.{pilotNumber, packedArena, packedLength, PackedLayout}
+use Rattle.admission.specs.Admits.{PilotsPack, AdmitsPacked, PackedFrom, PacksExactly, PacksLaidOut}
 use Rattle.admission.proofs.Opening.{contents-asks, asks-contents, checked-asks, asks-checked}
 
 refused-packed : {A : Type 0} (n : ℕ) (p : Opened) (bytes : List ℕ) → refused n ≡ packedAs p bytes → A
@@ -24,12 +35,22 @@ refused-packed n p bytes e = absurd (let z : _≡_ {A = ℕ} 0 1 = cc in omega a
 
 -- question 8, both ways
 pilots-asked : (s : List ℕ) (o : Opened) → pilotsPack s o ≡ true → PilotsPack s o
-unfolding pilotsPack pilotPacks pilotAt
+unfolding pilotsPack pilotPacks pilotAt pilotNumber directSlot
 pilots-asked s o e = record { below = λ k h. ltb-true _ _ (each-yes (pilotPacks s) (o .buckets) e k h) }
 
+-- a pilot without bit 31 has 23 bits
+pub pilot-packs : (s : List ℕ) (o : Opened) → PilotsPack s o → (k : ℕ) → k < o .buckets → directSlot (pilotAt s k) < 2 ^ 23
+unfolding pilotAt pilotNumber directSlot
+pilot-packs s o p k h = p .below k h
+
 pilots-pass : (s : List ℕ) (o : Opened) → PilotsPack s o → pilotsPack s o ≡ true
-unfolding pilotsPack pilotPacks pilotAt
-pilots-pass s o p = yes-each (pilotPacks s) (o .buckets) (λ k h. lt-ltb _ _ (p .below k h))
+unfolding pilotsPack pilotPacks
+pilots-pass s o p = yes-each (pilotPacks s) (o .buckets) (λ k h. lt-ltb _ _ (pilot-packs s o p k h))
+
+-- the packed length
+pub packed-size : (s : List ℕ) (o : Opened) → Header s o → length (packedBytes s o) ≡ packedLength s o
+unfolding packedLength packedArena
+packed-size s o h = let e = end-is s o in omega (arith, length-packed s o h)
 
 -- question 7, both ways
 fits-asked : (o : Opened) → fitsPacked o ≡ true → (o .encoding .checksum ≡ true) × (o .count < 2 ^ 23)
@@ -67,7 +88,7 @@ module _ (s «data» blocks : List ℕ) (scratch room : ℕ) where
           checksums = f .0;
           few = f .1;
           pilots = pilots-asked s o (e₂ .0);
-          holds = leb-true _ _ (e₃ .0);
+          holds = subst (λ (n : ℕ). n ≤ room) (packed-size s o (k .1)) (leb-true _ _ (e₃ .0));
         };
         same-record = w .1;
         same-bytes = w .2;
@@ -84,7 +105,7 @@ module _ (s «data» blocks : List ℕ) (scratch room : ℕ) where
       ap (packFor s «data» blocks scratch room) (asks-checked s o (a .admits .trailer) (a .admits .header))
       ∙ if-true _ _ _ (fits-pass o (a .checksums) (a .few))
       ∙ if-true _ _ _ (pilots-pass s o (a .pilots))
-      ∙ if-true _ _ _ (le-leb _ _ (a .holds))
+      ∙ if-true _ _ _ (le-leb _ _ (subst⁻¹ (λ (n : ℕ). n ≤ room) (packed-size s o (a .admits .header)) (a .holds)))
       ∙ ap (packedFor s o)
       (asks-contents s «data» blocks scratch o (record { pilots = a .admits .pilots; covers = a .admits .covers; agrees = a .admits .agrees }))
 
@@ -97,3 +118,47 @@ open-packed-exactly s «data» blocks scratch room p bytes = (
       asks-packed s «data» blocks scratch room (f .plain) (f .admits)
       ∙ sym (ap (λ (x : Opened). packedAs x bytes) (f .same-record) ∙ ap (packedAs (packedRecord (f .plain))) (f .same-bytes)),
 )
+
+-- ---- the layout of the packed bytes
+
+-- a pilot in 3 bytes
+packed-low : (q : ℕ) → q < 2 ^ 31 → packPilot q ≡ q
+unfolding packPilot isDirect directSlot
+packed-low q l = let e = if-false (leb (2 ^ 31) q) (2 ^ 23) 0 (lt-leb (2 ^ 31) q l) in omega arith
+
+packed-direct : (q : ℕ) → 2 ^ 31 ≤ q → packPilot q ≡ q % 2 ^ 31 + 2 ^ 23
+unfolding packPilot isDirect directSlot
+packed-direct q l = ap (λ (n : ℕ). q % 2 ^ 31 + n) (if-true (leb (2 ^ 31) q) (2 ^ 23) 0 (le-leb (2 ^ 31) q l))
+
+module _ (s : List ℕ) (o : Opened) (h : Header s o) (p : PilotsPack s o) where
+  pilot-stands : (k : ℕ) → k < o .buckets → leAt (packedBytes s o) (64 + 3 * k) 3 ≡ packPilot (pilotNumber s k)
+  unfolding pilotNumber pilotAt
+  pilot-stands k l = packed-pilot s o h k l (pilot-packs s o p k l)
+
+  arena-stands : take (keyRecordsEnd s o - o .arena) (drop (packedArena o) (packedBytes s o)) ≡ take (keyRecordsEnd s o - o .arena) (drop (o .arena) s)
+  unfolding packedArena packedRecord
+  arena-stands =
+      let e = end-is s o in
+      let b = arena-end s o (fromPlain h) .0 in
+      let z : packedArena o + 0 ≡ packedArena o = omega arith in
+      let y : o .arena + 0 ≡ o .arena = omega arith in
+      sym (ap (λ (n : ℕ). take (keyRecordsEnd s o - o .arena) (drop n (packedBytes s o))) z)
+      ∙ packed-part s o h 0 (keyRecordsEnd s o - o .arena) (omega arith)
+      ∙ ap (λ (n : ℕ). take (keyRecordsEnd s o - o .arena) (drop n s)) y
+
+  layout : PackedLayout s o (packedBytes s o)
+  layout =
+      record {
+        size = packed-size s o h;
+        header = packed-header s o h;
+        pilot = λ k l b. pilot-stands k l ∙ packed-low (pilotNumber s k) b;
+        direct = λ k l b. pilot-stands k l ∙ packed-direct (pilotNumber s k) b;
+        address = packed-address s o h;
+        arena = arena-stands;
+        last = packed-last s o h;
+      }
+
+-- the packed bytes of what is admitted packed have the packed layout
+pub packs-laid-out : PacksLaidOut
+unfolding PacksLaidOut
+packs-laid-out s «data» blocks scratch room o a = layout s o (a .admits .header) (a .pilots)

@@ -12,8 +12,8 @@ use Rattle.sstable.specs.declared.Kind.the-variants.{Tombstone}
 use Rattle.block.specs.Verify.{entriesEndIn}
 use Rattle.block.specs.Walk.{Entry, recordsOf}
 use Rattle.block.proofs.Walk.{walk-inside, walk-bytes}
-use Rattle.validate.specs.Walk.{placed, valueOf}
-use Rattle.admission.specs.Blocks.{offsetAt, lengthAt, pairEnd, blockAt, Covers, blockEntries, storeEntries}
+use Rattle.validate.specs.Walk.{valueOf}
+use Rattle.admission.specs.Blocks.{offsetAt, lengthAt, pairEnd, blockAt, Covers, inData, blockEntries, storeEntries}
 use Rattle.admission.proofs.Covers.{offset-next, block-next}
 
 -- ---- the records of one block
@@ -42,13 +42,13 @@ pub record StoredIn («data» blocks : List ℕ) (e : Entry) : Type 0 where
   pub is-pair : 2 * pair + 1 < length blocks
   pub inner : Entry
   pub member : List·Memᴰ inner (recordsOf (blockAt «data» blocks pair) .entries)
-  pub same : placed (offsetAt blocks pair) inner ≡ e
+  pub same : inData (offsetAt blocks pair) inner ≡ e
 
 module _ («data» : List ℕ) (x y : ℕ) (pairs : List ℕ) where
   stored-first : (e : Entry) → List·Memᴰ e (blockEntries «data» x y) → StoredIn «data» (x ∷ y ∷ pairs) e
   unfolding blockEntries blockAt offsetAt lengthAt
   stored-first e i =
-      let m = Memᴰ·of-map (placed x) (recordsOf (take y (drop x «data»)) .entries) i in
+      let m = Memᴰ·of-map (inData x) (recordsOf (take y (drop x «data»)) .entries) i in
       record { pair = 0; is-pair = omega arith; inner = m .0; member = m .1; same = m .2 }
 
   stored-next : (e : Entry) → StoredIn «data» pairs e → StoredIn «data» (x ∷ y ∷ pairs) e
@@ -73,13 +73,13 @@ stored-in «data» (x ∷ y ∷ pairs) e i =
 
 -- and every record of a block is a record of the store
 pub in-stored : («data» blocks : List ℕ) (i : ℕ) → 2 * i + 1 < length blocks → (e : Entry) → List·Memᴰ e (recordsOf (blockAt «data» blocks i) .entries)
-    → List·Memᴰ (placed (offsetAt blocks i) e) (storeEntries «data» blocks)
+    → List·Memᴰ (inData (offsetAt blocks i) e) (storeEntries «data» blocks)
 unfolding storeEntries blockEntries blockAt offsetAt lengthAt
 in-stored «data» [] i h e m = absurd (omega arith)
 in-stored «data» (x ∷ []) i h e m = absurd (omega arith)
-in-stored «data» (x ∷ y ∷ pairs) zero h e m = Memᴰ·append-left (storeEntries «data» pairs) (Memᴰ·map (placed x) m)
+in-stored «data» (x ∷ y ∷ pairs) zero h e m = Memᴰ·append-left (storeEntries «data» pairs) (Memᴰ·map (inData x) m)
 in-stored «data» (x ∷ y ∷ pairs) (suc i) h e m =
-    subst (λ (n : ℕ). List·Memᴰ (placed n e) (blockEntries «data» x y ++ storeEntries «data» pairs)) (sym (offset-next x y pairs i))
+    subst (λ (n : ℕ). List·Memᴰ (inData n e) (blockEntries «data» x y ++ storeEntries «data» pairs)) (sym (offset-next x y pairs i))
     (Memᴰ·append-right (blockEntries «data» x y)
     (in-stored «data» pairs i (omega arith) e (subst (λ (raw : List ℕ). List·Memᴰ e (recordsOf raw .entries)) (block-next x y pairs «data» i) m)))
 
@@ -92,8 +92,8 @@ pub record StoredEntry («data» : List ℕ) (e : Entry) : Type 0 where
   pub tombstone-empty : e .kind ≡ Tombstone → e .size ≡ 0
 
 placed-entry : («data» : List ℕ) (offset len : ℕ) (x : Entry) → offset + len ≤ length «data» → BlockEntry (take len (drop offset «data»)) x
-    → StoredEntry «data» (placed offset x)
-unfolding placed valueOf
+    → StoredEntry «data» (inData offset x)
+unfolding inData valueOf
 placed-entry «data» offset len x f b =
     let v = b .value-inside in
     let n : offset + x .place + x .size ≤ length «data» = omega (arith, length-take len (drop offset «data»)) in
@@ -111,8 +111,8 @@ stored-entry «data» blocks c e i =
     subst (StoredEntry «data») (s .same) (placed-entry «data» (offsetAt blocks (s .pair)) (lengthAt blocks (s .pair)) (s .inner) (c .finishes (s .pair) (s .is-pair)) b)
 
 placed-value : («data» : List ℕ) (offset len : ℕ) (x : Entry) → BlockEntry (take len (drop offset «data»)) x
-    → valueOf «data» (placed offset x) ≡ valueOf (take len (drop offset «data»)) x
-unfolding valueOf placed
+    → valueOf «data» (inData offset x) ≡ valueOf (take len (drop offset «data»)) x
+unfolding valueOf inData
 placed-value «data» offset len x b =
     let v = b .value-inside in
     sym (part-part «data» offset len (x .place) (x .size) (omega (arith, length-take len (drop offset «data»))))
@@ -130,7 +130,7 @@ block-bytes «data» blocks i b = bytes-take (lengthAt blocks i) (drop (offsetAt
 
 -- keys of bytes stand in data of bytes
 pub stored-key-bytes : («data» blocks : List ℕ) → Bytes «data» → (e : Entry) → List·Memᴰ e (storeEntries «data» blocks) → Bytes (e .key)
-unfolding placed
+unfolding inData
 stored-key-bytes «data» blocks b e i =
     let s = stored-in «data» blocks e i in
     subst (λ (x : Entry). Bytes (x .key)) (s .same)

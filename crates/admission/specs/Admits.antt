@@ -3,12 +3,8 @@ use mathlib.Core.Path.{_≡_}
 use mathlib.Core.Logic.{_↔_}
 use mathlib.Core.Bool.{true}
 use mathlib.Core.List.{List}
-use Prim.Native.Nat.{ℕ, _+_, _*_, _^_, _<_, _≤_}
-use lib.ListN.{length}
-use Rattle.num.specs.Number.{leAt}
+use Prim.Native.Nat.{ℕ, _%_, _^_, _<_, _≤_}
 use Rattle.sstable.specs.Trailer.{SoundTrailer}
-use Rattle.point.specs.Hash.{isDirect, directSlot}
-use Rattle.encoding.specs.Encoding.{headerLen}
 use Rattle.header.specs.declared.Opened.{Opened}
 use Rattle.header.specs.declared.HeaderRead.the-variants.{Accepted}
 use Rattle.header.specs.Header.{packedRecord}
@@ -18,11 +14,11 @@ use Rattle.packing.specs.Packing.{packedAs, openPackedOf}
 use Rattle.packed.specs.Packed.{packedBytes}
 use Rattle.agreement.specs.Agrees.{Agrees}
 use Rattle.admission.specs.Blocks.{Covers, storeEntries}
+use Rattle.admission.specs.Layout.{pilotNumber, packedLength, PackedLayout}
 
--- question 10: each direct pilot's slot is below n
+-- question 10: a pilot with bit 31 is direct, and the rest of it, its slot, is below n
 pub record PilotsInside (s : List ℕ) (o : Opened) : Type 0 where
-  pub direct : (k : ℕ) → k < o .buckets → isDirect (leAt s (headerLen + 4 * k) 4) ≡ true
-      → directSlot (leAt s (headerLen + 4 * k) 4) < o .count
+  pub direct : (k : ℕ) → k < o .buckets → 2 ^ 31 ≤ pilotNumber s k → pilotNumber s k % 2 ^ 31 < o .count
 
 -- a section beside backing data and a block list, for a key scratch of a length, with the record that its header says
 pub record Admits (s «data» blocks : List ℕ) (scratch : ℕ) (o : Opened) : Type 0 where
@@ -39,7 +35,7 @@ pub record Admits (s «data» blocks : List ℕ) (scratch : ℕ) (o : Opened) : 
 
 -- question 8: each pilot without bit 31 is below 2^23
 pub record PilotsPack (s : List ℕ) (o : Opened) : Type 0 where
-  pub below : (k : ℕ) → k < o .buckets → directSlot (leAt s (headerLen + 4 * k) 4) < 2 ^ 23
+  pub below : (k : ℕ) → k < o .buckets → pilotNumber s k % 2 ^ 31 < 2 ^ 23
 
 -- the same for a packed opening with an output of a length; the record is still the one that the section's header says
 pub record AdmitsPacked (s «data» blocks : List ℕ) (scratch room : ℕ) (o : Opened) : Type 0 where
@@ -51,7 +47,7 @@ pub record AdmitsPacked (s «data» blocks : List ℕ) (scratch room : ℕ) (o :
   -- question 8
   pub pilots : PilotsPack s o
   -- question 9
-  pub holds : length (packedBytes s o) ≤ room
+  pub holds : packedLength s o ≤ room
 
 -- a record and bytes are the packed form of a section that is admitted packed
 pub record PackedFrom (s «data» blocks : List ℕ) (scratch room : ℕ) (p : Opened) (bytes : List ℕ) : Type 0 where
@@ -70,3 +66,8 @@ unfoldable pub PacksExactly : Type 0
 PacksExactly =
     (s «data» blocks : List ℕ) (scratch room : ℕ) (p : Opened) (bytes : List ℕ)
     → (openPackedOf s «data» blocks scratch room ≡ packedAs p bytes) ↔ PackedFrom s «data» blocks scratch room p bytes
+
+-- and those bytes have the packed layout
+unfoldable pub PacksLaidOut : Type 0
+PacksLaidOut =
+    (s «data» blocks : List ℕ) (scratch room : ℕ) (o : Opened) → AdmitsPacked s «data» blocks scratch room o → PackedLayout s o (packedBytes s o)

@@ -8,7 +8,6 @@ use Rattle.block.specs.declared.EntryHeader.{EntryHeader}
 use Rattle.block.specs.Verify.{SoundBlock}
 use Rattle.block.specs.EntryHeader.{SoundEntry}
 use Rattle.block.specs.Walk.{Entry, recordsOf}
-use Rattle.validate.specs.Walk.{placed}
 use Rattle.opening.specs.Open.{blockBytes}
 
 -- the offset of pair i
@@ -55,17 +54,19 @@ pub record Covers («data» blocks : List ℕ) : Type 0 where
   pub even : length blocks % 2 ≡ 0
   pub begins : (i : ℕ) → 2 * i + 1 < length blocks → offsetAt blocks i ≡ pairStart blocks i
   pub finishes : (i : ℕ) → 2 * i + 1 < length blocks → pairEnd blocks i ≤ length «data»
-  -- 12
+  -- 12 and 13: the block is sound, and its records stand from its start, behind no key, to the end of its entries
   pub sound : (i : ℕ) → 2 * i + 1 < length blocks → (m : BlockMeta) × SoundBlock (blockAt «data» blocks i) m
-  -- 13: the block's records stand from its start, behind no key, to the end of its entries
-  pub walked : (i : ℕ) → 2 * i + 1 < length blocks → (m : BlockMeta) → SoundBlock (blockAt «data» blocks i) m
-      → EntriesStand (blockAt «data» blocks i) (m .«entries_end») 0 [] (recordsOf (blockAt «data» blocks i) .entries)
+      × EntriesStand (blockAt «data» blocks i) (m .«entries_end») 0 [] (recordsOf (blockAt «data» blocks i) .entries)
   -- 22: the last pair ends where the data do; without a pair they are empty
   pub whole : pairStart blocks (length blocks / 2) ≡ length «data»
 
+-- a block's record, its value's place counted from the data's start
+unfoldable pub inData : ℕ → Entry → Entry
+inData offset e = record { key = e .key; seq = e .seq; kind = e .kind; place = offset + e .place; size = e .size }
+
 -- the records of the block at an offset, their values' places counted in the data
 unfoldable pub blockEntries : List ℕ → ℕ → ℕ → List Entry
-blockEntries «data» offset len = map (placed offset) (recordsOf (blockBytes «data» offset len) .entries)
+blockEntries «data» offset len = map (inData offset) (recordsOf (blockBytes «data» offset len) .entries)
 
 -- the records of all blocks, one block behind the other
 unfoldable pub storeEntries : List ℕ → List ℕ → List Entry
@@ -75,5 +76,5 @@ storeEntries «data» (offset ∷ len ∷ pairs) = blockEntries «data» offset 
 
 -- names all definitions of this file: `unfolding block-defs` opens them
 unfoldable pub block-defs : ℕ
-unfolding offsetAt lengthAt pairEnd pairStart blockAt EntriesStand blockEntries storeEntries
+unfolding offsetAt lengthAt pairEnd pairStart blockAt EntriesStand inData blockEntries storeEntries
 block-defs = 0

@@ -9,9 +9,8 @@ use native.Mathlib.Omega.{arith}
 use lib.Dec.{ltb}
 use borrow.Author.Tests.{ltb-true, ltb-false}
 use Rattle.num.proofs.Steps.{steps-le}
-use Rattle.encoding.specs.Encoding.{keyHeaderLenOf, versionLenOf}
 use Rattle.header.specs.declared.Opened.{Opened}
-use Rattle.agreement.specs.Keys.{keyRecordLen, addressOf, keyHeaderOf, versionCount, suffixPlace, anchorIndex, firstVersion, versionPlace}
+use Rattle.agreement.specs.Keys.{keyHeaderSize, versionSize, keyRecordLen, addressOf, keyHeaderOf, versionCount, suffixPlace, anchorIndex, firstVersion, versionPlace}
 
 -- an anchor's anchor is itself
 pub anchor-self : (k : ℕ) → k % 1024 ≡ 0 → anchorIndex k ≡ k
@@ -31,7 +30,7 @@ anchor-le k = omega arith
 module _ (s : List ℕ) (o : Opened) where
   -- a key record is followed by the next
   pub address-next : (k : ℕ) → addressOf s o (suc k)
-      ≡ addressOf s o k + keyHeaderLenOf (o .encoding) + keyHeaderOf s o k .«suffix_len» + versionCount s o k * versionLenOf (o .encoding)
+      ≡ addressOf s o k + keyHeaderSize (o .encoding) + keyHeaderOf s o k .«suffix_len» + versionCount s o k * versionSize (o .encoding)
   unfolding addressOf keyRecordLen keyHeaderOf versionCount
   address-next k = omega arith
 

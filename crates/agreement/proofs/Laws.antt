@@ -15,10 +15,8 @@ use Rattle.num.proofs.Lists.{part-length}
 use Rattle.num.proofs.Order.{lessThan-transitive, lessThan-different}
 use Rattle.num.proofs.Steps.{neighbours}
 use Rattle.block.specs.Walk.{Entry}
-use Rattle.encoding.specs.Encoding.{keyHeaderLenOf, versionLenOf}
 use Rattle.header.specs.declared.Opened.{Opened}
-use Rattle.arena.specs.Key.{keyHeaderAt}
-use Rattle.agreement.specs.Keys.{keyRecordsEnd, addressOf, keyHeaderOf, versionCount, suffixPlace, anchorIndex, keyAt, keySlot, firstVersion, versionPlace, versionSeq}
+use Rattle.agreement.specs.Keys.{keyHeaderSize, versionSize, keyHeaderIn, keyRecordsEnd, addressOf, keyHeaderOf, versionCount, suffixPlace, anchorIndex, keyAt, keySlot, firstVersion, versionPlace, versionSeq}
 use Rattle.agreement.specs.Agrees.{noEntry, entryAt, SameVersion, Agrees}
 use Rattle.agreement.proofs.Indices.{anchor-le, address-next, address-le, version-before, version-of}
 
@@ -29,8 +27,8 @@ width-some s at zero h = absurd (not-suc-le-zero h)
 width-some s at (suc w) h = omega arith
 
 -- a key header that counts versions is at least a byte long
-header-some : (s : List ℕ) (o : Opened) (k : ℕ) → 0 < versionCount s o k → 0 < keyHeaderLenOf (o .encoding)
-unfolding versionCount keyHeaderOf keyHeaderAt keyHeaderLenOf
+header-some : (s : List ℕ) (o : Opened) (k : ℕ) → 0 < versionCount s o k → 0 < keyHeaderSize (o .encoding)
+unfolding versionCount keyHeaderOf keyHeaderIn keyHeaderSize
 header-some s o k h =
     let n = width-some s (o .arena + addressOf s o k + o .encoding .address + 2 * o .encoding .key) (o .encoding .count) h in omega arith
 
@@ -111,11 +109,11 @@ module _ {s «data» : List ℕ} {scratch : ℕ} {o : Opened} {es : List Entry} 
       omega arith
 
   -- and so does each version
-  pub version-inside : (k j : ℕ) → k < o .count → j < versionCount s o k → versionPlace s o k j + versionLenOf (o .encoding) ≤ keyRecordsEnd s o
+  pub version-inside : (k j : ℕ) → k < o .count → j < versionCount s o k → versionPlace s o k j + versionSize (o .encoding) ≤ keyRecordsEnd s o
   unfolding versionPlace
   version-inside k j h l =
       let v = a .keys k h .versions-inside in
-      let m = mul-le-mul-right (versionLenOf (o .encoding)) l in
+      let m = mul-le-mul-right (versionSize (o .encoding)) l in
       omega arith
 
   -- a key is as long as its two lengths say, in a section that reaches to the arena's end

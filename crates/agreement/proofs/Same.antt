@@ -4,12 +4,18 @@ use mathlib.Core.Path.{_≡_, refl}
 use mathlib.Core.List.{List}
 use Prim.Native.Nat.{ℕ}
 use Rattle.point.specs.Hash.{bucketOf}
-use Rattle.encoding.specs.Encoding.{tombstoneOf}
+use Rattle.encoding.specs.declared.Encoding.{Encoding}
+use Rattle.encoding.specs.Encoding.{versionLenOf, tombstoneOf}
 use Rattle.header.specs.declared.Opened.{Opened}
 use Rattle.header.specs.Header.{arenaEnd}
 use Rattle.arena.specs.Key.{pilotPlace, slotPlace}
 use Rattle.versions.specs.Version.{storedSeq, storedValue, kindIn, lengthIn, storedOffset, storedChecksum}
-use Rattle.agreement.specs.Keys.{keyRecordsEnd, keyHash, keySlot, versionPlace, versionSeq, topBit, markedLength, versionKind, versionLength, versionOffset, versionChecksum}
+use Rattle.agreement.specs.Keys.{keyRecordsEnd, versionSize, keyHash, keySlot, versionPlace, versionSeq, topBit, markedLength, versionKind, versionLength, versionOffset, versionChecksum}
+
+-- the bytes of a version
+pub version-size-is : (e : Encoding) → versionSize e ≡ versionLenOf e
+unfolding versionSize versionLenOf
+version-size-is e = refl
 
 module _ (s : List ℕ) (o : Opened) where
   -- the key records end where the arena does

@@ -25,7 +25,7 @@ use Rattle.arena.specs.declared.Visited.the-variants.{Went, Refused}
 use Rattle.arena.specs.Key.{keyHeaderAt, atAnchor, suffixAddress, anchorOf, anchorLenOf, keyInside, keyFits, keyRises, scanNames, slotPlace, slotNames, prefixChanges, entered, keyFor, keyOf}
 use Rattle.versions.specs.Version.{storedKey, storedSeq, storedValue, kindIn, lengthIn, storedOffset, storedChecksum, versionAgrees, checksumAgrees, advanced, versionFor, visitOf}
 use Rattle.versions.proofs.Agreeing.{agreeing, agrees}
-use Rattle.agreement.specs.Keys.{addressOf, keyHeaderOf, versionCount, suffixPlace, anchorIndex, keyAt, versionPlace, versionSeq, versionChecksum, prefixAt, prefixNew, prefixCount}
+use Rattle.agreement.specs.Keys.{keyHeaderSize, versionSize, keyHeaderIn, addressOf, keyHeaderOf, versionCount, suffixPlace, anchorIndex, keyAt, versionPlace, versionSeq, versionChecksum, prefixAt, prefixNew, prefixCount}
 use Rattle.agreement.specs.Agrees.{KeyStands, SameVersion}
 use Rattle.agreement.proofs.Indices.{anchor-self, anchor-before, versions-behind}
 use Rattle.agreement.proofs.Same.{seq-is, kind-is, length-is, offset-is, checksum-is}
@@ -35,7 +35,7 @@ pub record Before (s : List ℕ) (o : Opened) (k : ℕ) (c : Cursor) : Type 0 wh
   pub pos : c .pos ≡ o .arena + addressOf s o k
   pub groups : c .groups ≡ k
   pub remaining : c .remaining ≡ 0
-  pub anchor : (k % 1024 ≡ 0 → ⊥) → c .anchor ≡ addressOf s o (anchorIndex k) + keyHeaderLenOf (o .encoding)
+  pub anchor : (k % 1024 ≡ 0 → ⊥) → c .anchor ≡ addressOf s o (anchorIndex k) + keyHeaderSize (o .encoding)
   pub anchor-len : (k % 1024 ≡ 0 → ⊥) → c .«anchor_len» ≡ keyHeaderOf s o (anchorIndex k) .«suffix_len»
 
 -- the cursor stands before version j of key k, whose key header it has passed
@@ -43,7 +43,7 @@ pub record Within (s : List ℕ) (o : Opened) (k j : ℕ) (c : Cursor) : Type 0 
   pub pos : c .pos ≡ versionPlace s o k j
   pub groups : c .groups ≡ suc k
   pub remaining : c .remaining + j ≡ versionCount s o k
-  pub anchor : c .anchor ≡ addressOf s o (anchorIndex k) + keyHeaderLenOf (o .encoding)
+  pub anchor : c .anchor ≡ addressOf s o (anchorIndex k) + keyHeaderSize (o .encoding)
   pub anchor-len : c .«anchor_len» ≡ keyHeaderOf s o (anchorIndex k) .«suffix_len»
   pub shared : c .shared ≡ keyHeaderOf s o k .shared
   pub suffix : c .suffix ≡ suffixPlace s o k
@@ -69,15 +69,15 @@ pub record KeyAsked (s : List ℕ) (o : Opened) (end k : ℕ) (key : List ℕ) :
 
 module _ (s : List ℕ) (o : Opened) (k : ℕ) (c : Cursor) (b : Before s o k c) where
   header-is : keyHeaderAt s (o .encoding) (c .pos) ≡ keyHeaderOf s o k
-  unfolding keyHeaderOf
+  unfolding keyHeaderOf keyHeaderIn keyHeaderAt
   header-is = ap (keyHeaderAt s (o .encoding)) (b .pos)
 
-  anchor-is : anchorOf o c ≡ addressOf s o (anchorIndex k) + keyHeaderLenOf (o .encoding)
-  unfolding anchorOf atAnchor suffixAddress
+  anchor-is : anchorOf o c ≡ addressOf s o (anchorIndex k) + keyHeaderSize (o .encoding)
+  unfolding anchorOf atAnchor suffixAddress keyHeaderLenOf keyHeaderSize
   anchor-is =
       let p = b .pos in
       let g = b .groups in
-      if-case (λ (x : ℕ). x ≡ addressOf s o (anchorIndex k) + keyHeaderLenOf (o .encoding)) (eqb (c .groups % group) 0) (c .pos + keyHeaderLenOf (o .encoding) - o .arena) (c .anchor)
+      if-case (λ (x : ℕ). x ≡ addressOf s o (anchorIndex k) + keyHeaderSize (o .encoding)) (eqb (c .groups % group) 0) (c .pos + keyHeaderSize (o .encoding) - o .arena) (c .anchor)
       (λ e. let z = eqb-true (c .groups % group) 0 e in let a = ap (addressOf s o) (anchor-self k (omega arith)) in omega arith)
       (λ e. let z = eqb-false (c .groups % group) 0 e in b .anchor (λ y. z (omega arith)))
 
@@ -91,7 +91,7 @@ module _ (s : List ℕ) (o : Opened) (k : ℕ) (c : Cursor) (b : Before s o k c)
 
   module _ (end : ℕ) where
     stands : keyInside o end c ≡ true → keyFits o end c (keyHeaderOf s o k) ≡ true → (k < o .count) × KeyStands s o end k
-    unfolding keyInside keyFits suffixPlace versionCount atAnchor maxKeyBytes
+    unfolding keyInside keyFits suffixPlace versionCount atAnchor maxKeyBytes keyHeaderLenOf keyHeaderSize versionLenOf versionSize
     stands i f =
         let p = b .pos in
         let g = b .groups in
@@ -105,10 +105,10 @@ module _ (s : List ℕ) (o : Opened) (k : ℕ) (c : Cursor) (b : Before s o k c)
         let b₅ = both-true _ _ (b₄ .1) in
         let b₆ = both-true _ _ (b₅ .1) in
         let n : c .groups < o .count = ltb-true _ _ (b₀ .0) in
-        let h : c .pos + keyHeaderLenOf (o .encoding) ≤ end = leb-true _ _ (b₀ .1) in
+        let h : c .pos + keyHeaderSize (o .encoding) ≤ end = leb-true _ _ (b₀ .1) in
         let r : keyHeaderOf s o k .shared ≤ anchorLenOf c (keyHeaderOf s o k) = leb-true _ _ (b₃ .0) in
-        let x : c .pos + keyHeaderLenOf (o .encoding) + keyHeaderOf s o k .«suffix_len» ≤ end = leb-true _ _ (b₄ .0) in
-        let v : c .pos + keyHeaderLenOf (o .encoding) + keyHeaderOf s o k .«suffix_len» + keyHeaderOf s o k .versions * versionLenOf (o .encoding) ≤ end = leb-true _ _ (b₆ .0) in (
+        let x : c .pos + keyHeaderSize (o .encoding) + keyHeaderOf s o k .«suffix_len» ≤ end = leb-true _ _ (b₄ .0) in
+        let v : c .pos + keyHeaderSize (o .encoding) + keyHeaderOf s o k .«suffix_len» + keyHeaderOf s o k .versions * versionSize (o .encoding) ≤ end = leb-true _ _ (b₆ .0) in (
           omega arith,
           record {
             header-inside = omega arith;
@@ -123,17 +123,17 @@ module _ (s : List ℕ) (o : Opened) (k : ℕ) (c : Cursor) (b : Before s o k c)
         )
 
     inside : k < o .count → KeyStands s o end k → keyInside o end c ≡ true
-    unfolding keyInside
+    unfolding keyInside keyHeaderLenOf keyHeaderSize
     inside n f =
         let p = b .pos in
         let g = b .groups in
         let h = f .header-inside in
         let m : c .groups < o .count = omega arith in
-        let i : c .pos + keyHeaderLenOf (o .encoding) ≤ end = omega arith in
+        let i : c .pos + keyHeaderSize (o .encoding) ≤ end = omega arith in
         true-both _ _ (lt-ltb _ _ m) (le-leb _ _ i)
 
     fits : KeyStands s o end k → keyFits o end c (keyHeaderOf s o k) ≡ true
-    unfolding keyFits suffixPlace versionCount atAnchor maxKeyBytes
+    unfolding keyFits suffixPlace versionCount atAnchor maxKeyBytes keyHeaderLenOf keyHeaderSize versionLenOf versionSize
     fits f =
         let p = b .pos in
         let g = b .groups in
@@ -142,8 +142,8 @@ module _ (s : List ℕ) (o : Opened) (k : ℕ) (c : Cursor) (b : Before s o k c)
         let w = f .versions-inside in
         let q = f .shared in
         let r : keyHeaderOf s o k .shared ≤ anchorLenOf c (keyHeaderOf s o k) = omega arith in
-        let x : c .pos + keyHeaderLenOf (o .encoding) + keyHeaderOf s o k .«suffix_len» ≤ end = omega arith in
-        let v : c .pos + keyHeaderLenOf (o .encoding) + keyHeaderOf s o k .«suffix_len» + keyHeaderOf s o k .versions * versionLenOf (o .encoding) ≤ end = omega arith in
+        let x : c .pos + keyHeaderSize (o .encoding) + keyHeaderOf s o k .«suffix_len» ≤ end = omega arith in
+        let v : c .pos + keyHeaderSize (o .encoding) + keyHeaderOf s o k .«suffix_len» + keyHeaderOf s o k .versions * versionSize (o .encoding) ≤ end = omega arith in
         true-both _ _ (second-either _ _ (λ e. let z = eqb-true (c .groups % group) 0 (not-false _ e) in eq-eqb _ _ (f .anchor-whole (omega arith))))
         (true-both _ _ (eq-eqb _ _ (f .anchor ∙ sym anchor-is))
         (true-both _ _ (le-leb _ _ r)
@@ -226,7 +226,7 @@ module _ (s : List ℕ) (o : Opened) (end k : ℕ) (c : Cursor) (last key : List
 -- ---- the cursor behind a key header, behind a version, and behind the last one
 
 entered-within : (s : List ℕ) (o : Opened) (k : ℕ) (c : Cursor) → Before s o k c → (changes : Bool) → Within s o k 0 (entered o c (keyHeaderOf s o k) changes)
-unfolding entered versionPlace suffixPlace versionCount
+unfolding entered versionPlace suffixPlace versionCount keyHeaderLenOf keyHeaderSize versionLenOf versionSize
 entered-within s o k c b changes =
     let p = b .pos in
     let g = b .groups in
@@ -261,7 +261,7 @@ entered-counted s o k c last key b m e =
 
 advanced-within : (s : List ℕ) (o : Opened) (k j : ℕ) (c : Cursor) (seq : ℕ) → Within s o k j c → j < versionCount s o k → seq ≡ versionSeq s o k j
     → Within s o k (suc j) (advanced o c seq)
-unfolding advanced versionPlace
+unfolding advanced versionPlace versionLenOf versionSize
 advanced-within s o k j c seq w h e =
     let p = w .pos in
     let r = w .remaining in
@@ -291,7 +291,7 @@ within-last s o k j c w h =
       pos = w .pos ∙ ap (versionPlace s o k) e ∙ versions-behind s o k;
       groups = w .groups;
       remaining = omega arith;
-      anchor = λ n. w .anchor ∙ ap (λ (i : ℕ). addressOf s o i + keyHeaderLenOf (o .encoding)) (sym (anchor-before k n));
+      anchor = λ n. w .anchor ∙ ap (λ (i : ℕ). addressOf s o i + keyHeaderSize (o .encoding)) (sym (anchor-before k n));
       anchor-len = λ n. w .anchor-len ∙ ap (λ (i : ℕ). keyHeaderOf s o i .«suffix_len») (sym (anchor-before k n));
     }
 
@@ -308,7 +308,7 @@ module _ (s : List ℕ) (o : Opened) (k j : ℕ) (c : Cursor) (w : Within s o k 
   unfolding storedKey keyAt suffixPlace
   key-is =
       let a = w .anchor in
-      let x : o .arena + c .anchor ≡ o .arena + addressOf s o (anchorIndex k) + keyHeaderLenOf (o .encoding) = omega arith in
+      let x : o .arena + c .anchor ≡ o .arena + addressOf s o (anchorIndex k) + keyHeaderSize (o .encoding) = omega arith in
       λ i. take (w .shared i) (drop (x i) s) ++ take (w .suffix-len i) (drop (w .suffix i) s)
 
   asked-version : (e : Entry) (value : List ℕ) → versionAgrees s o c e ≡ true → checksumAgrees s o c value ≡ true → VersionAsked s o k j e value

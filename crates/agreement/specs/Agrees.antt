@@ -10,10 +10,9 @@ use Rattle.crc32.specs.V42.{crcOf}
 use Rattle.sstable.specs.declared.Kind.the-variants.{Put}
 use Rattle.block.specs.Walk.{Entry}
 use Rattle.point.specs.Hash.{fingerprintOf}
-use Rattle.encoding.specs.Encoding.{keyHeaderLenOf, versionLenOf}
 use Rattle.header.specs.declared.Opened.{Opened}
 use Rattle.validate.specs.Walk.{valueOf}
-use Rattle.agreement.specs.Keys.{keyRecordsEnd, addressOf, keyHeaderOf, versionCount, suffixPlace, anchorIndex, keyAt, keyHash, keySlot, firstVersion, versionSeq, versionKind, versionLength, versionOffset, versionChecksum, prefixCount}
+use Rattle.agreement.specs.Keys.{keyRecordsEnd, keyHeaderSize, versionSize, addressOf, keyHeaderOf, versionCount, suffixPlace, anchorIndex, keyAt, keyHash, keySlot, firstVersion, versionSeq, versionKind, versionLength, versionOffset, versionChecksum, prefixCount}
 
 -- stands for a record behind the last one
 unfoldable pub noEntry : Entry
@@ -25,13 +24,13 @@ entryAt es r = getD es r noEntry
 
 -- question 16 of key record k, where the key records end at `end`; fewer than n keys come before it
 pub record KeyStands (s : List ℕ) (o : Opened) (end k : ℕ) : Type 0 where
-  pub header-inside : o .arena + addressOf s o k + keyHeaderLenOf (o .encoding) ≤ end
+  pub header-inside : o .arena + addressOf s o k + keyHeaderSize (o .encoding) ≤ end
   pub anchor-whole : k % 1024 ≡ 0 → keyHeaderOf s o k .shared ≡ 0
-  pub anchor : keyHeaderOf s o k .anchor ≡ addressOf s o (anchorIndex k) + keyHeaderLenOf (o .encoding)
+  pub anchor : keyHeaderOf s o k .anchor ≡ addressOf s o (anchorIndex k) + keyHeaderSize (o .encoding)
   pub shared : keyHeaderOf s o k .shared ≤ keyHeaderOf s o (anchorIndex k) .«suffix_len»
   pub suffix-inside : suffixPlace s o k + keyHeaderOf s o k .«suffix_len» ≤ end
   pub some-version : 0 < versionCount s o k
-  pub versions-inside : suffixPlace s o k + keyHeaderOf s o k .«suffix_len» + versionCount s o k * versionLenOf (o .encoding) ≤ end
+  pub versions-inside : suffixPlace s o k + keyHeaderOf s o k .«suffix_len» + versionCount s o k * versionSize (o .encoding) ≤ end
   pub short : keyHeaderOf s o k .shared + keyHeaderOf s o k .«suffix_len» ≤ 1048576
 
 -- question 20 of a record beside version j of key k, but for the order of sequences; a sum of 2^64 or more never agrees

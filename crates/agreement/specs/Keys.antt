@@ -13,28 +13,44 @@ use Rattle.sstable.specs.declared.Kind.{Kind}
 use Rattle.sstable.specs.declared.Kind.the-variants.{Put, Tombstone}
 use Rattle.point.specs.Hash.{hashOf, slotOf}
 use Rattle.encoding.specs.declared.Encoding.{Encoding}
-use Rattle.encoding.specs.Encoding.{keyHeaderLenOf, versionLenOf}
 use Rattle.header.specs.declared.Opened.{Opened}
 use Rattle.arena.specs.declared.KeyHeader.{KeyHeader}
-use Rattle.arena.specs.Key.{keyHeaderAt}
 
 -- where the key records end (questions 16 and 22): at the last five bytes, or at the scan part
 unfoldable pub keyRecordsEnd : List ℕ → Opened → ℕ
 keyRecordsEnd s o = if eqb (o .scan) 0 then length s - 5 else o .scan
 
+-- the bytes of a key header: anchor, shared length, suffix length, number of versions, in the widths address, key, key, count
+unfoldable pub keyHeaderSize : Encoding → ℕ
+keyHeaderSize e = e .address + 2 * e .key + e .count
+
+-- the bytes of a version: sequence, value length, value offset, and with checksums the CRC-32
+unfoldable pub versionSize : Encoding → ℕ
+versionSize e = e .seq + e .value + e .address + (if e .checksum then 4 else 0)
+
+-- the key header at a place of the section
+unfoldable pub keyHeaderIn : List ℕ → Encoding → ℕ → KeyHeader
+keyHeaderIn s e at =
+    record {
+      anchor = leAt s at (e .address);
+      shared = leAt s (at + e .address) (e .key);
+      «suffix_len» = leAt s (at + e .address + e .key) (e .key);
+      versions = leAt s (at + e .address + 2 * e .key) (e .count);
+    }
+
 -- the bytes of a key record
 unfoldable pub keyRecordLen : Encoding → KeyHeader → ℕ
-keyRecordLen e h = keyHeaderLenOf e + h .«suffix_len» + h .versions * versionLenOf e
+keyRecordLen e h = keyHeaderSize e + h .«suffix_len» + h .versions * versionSize e
 
 -- the address of key record k: the first stands at 0, each other behind the one before
 unfoldable pub addressOf : List ℕ → Opened → ℕ → ℕ
 addressOf s o zero = 0
 addressOf s o (suc k) =
-    addressOf s o k + keyRecordLen (o .encoding) (keyHeaderAt s (o .encoding) (o .arena + addressOf s o k))
+    addressOf s o k + keyRecordLen (o .encoding) (keyHeaderIn s (o .encoding) (o .arena + addressOf s o k))
 
 -- its key header
 unfoldable pub keyHeaderOf : List ℕ → Opened → ℕ → KeyHeader
-keyHeaderOf s o k = keyHeaderAt s (o .encoding) (o .arena + addressOf s o k)
+keyHeaderOf s o k = keyHeaderIn s (o .encoding) (o .arena + addressOf s o k)
 
 -- how many versions it has
 unfoldable pub versionCount : List ℕ → Opened → ℕ → ℕ
@@ -42,7 +58,7 @@ versionCount s o k = keyHeaderOf s o k .versions
 
 -- the place of its suffix in the section
 unfoldable pub suffixPlace : List ℕ → Opened → ℕ → ℕ
-suffixPlace s o k = o .arena + addressOf s o k + keyHeaderLenOf (o .encoding)
+suffixPlace s o k = o .arena + addressOf s o k + keyHeaderSize (o .encoding)
 
 -- the index of its anchor: every 1,024th key from key 0 on is one (question 16)
 unfoldable pub anchorIndex : ℕ → ℕ
@@ -72,7 +88,7 @@ firstVersion s o (suc k) = firstVersion s o k + versionCount s o k
 
 -- the place of version j of key k in the section
 unfoldable pub versionPlace : List ℕ → Opened → ℕ → ℕ → ℕ
-versionPlace s o k j = suffixPlace s o k + keyHeaderOf s o k .«suffix_len» + j * versionLenOf (o .encoding)
+versionPlace s o k j = suffixPlace s o k + keyHeaderOf s o k .«suffix_len» + j * versionSize (o .encoding)
 
 -- its sequence: the least sequence plus the stored number (question 20)
 unfoldable pub versionSeq : List ℕ → Opened → ℕ → ℕ → ℕ
@@ -118,5 +134,5 @@ prefixCount s o (suc k) = if prefixNew s o k then prefixCount s o k + 1 else pre
 
 -- names all definitions of this file: `unfolding index-defs` opens them
 unfoldable pub index-defs : ℕ
-unfolding keyRecordsEnd keyRecordLen addressOf keyHeaderOf versionCount suffixPlace anchorIndex keyAt keyHash keySlot firstVersion versionPlace versionSeq topBit markedLength versionKind versionLength versionOffset versionChecksum prefixAt prefixNew prefixCount
+unfolding keyRecordsEnd keyHeaderSize versionSize keyHeaderIn keyRecordLen addressOf keyHeaderOf versionCount suffixPlace anchorIndex keyAt keyHash keySlot firstVersion versionPlace versionSeq topBit markedLength versionKind versionLength versionOffset versionChecksum prefixAt prefixNew prefixCount
 index-defs = 0

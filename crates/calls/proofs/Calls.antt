@@ -1,7 +1,8 @@
 -- The demands at the entries: what the results of 0 leave, and what follows for one linker and for two.
 -- Assumes nothing.
-use mathlib.Core.Path.{_≡_, sym, ap, ap₂, _∙_}
+use mathlib.Core.Path.{_≡_, refl, sym, ap, ap₂, _∙_, subst⁻¹}
 use mathlib.Core.List.{List}
+use mathlib.Core.Logic.{_↔_}
 use Prim.Native.Nat.{ℕ, _+_, _≤_}
 use native.Mathlib.Nat.{zero-add}
 use native.Mathlib.Omega.{arith}
@@ -12,11 +13,13 @@ use Rattle.num.proofs.Lists.{part-sets-same, standing-next, standing-sets}
 use Rattle.header.specs.declared.Opened.{Opened}
 use Rattle.header.specs.declared.HeaderRead.{HeaderRead}
 use Rattle.header.specs.declared.HeaderRead.the-variants.{Accepted}
-use Rattle.opening.specs.Open.{openOf}
-use Rattle.packing.specs.Packing.{PackedForm, packedAs, openPackedOf, packedWritten}
-use Rattle.admission.specs.Admits.{OpensExactly, PacksExactly, PackedFrom}
+use Rattle.packing.specs.Packing.{PackedForm, packedAs, packedWritten}
+use Rattle.header.specs.Header.{packedRecord}
+use Rattle.packed.specs.Packed.{packedBytes}
+use Rattle.admission.specs.Layout.{PackedLayout}
+use Rattle.admission.specs.Admits.{Admits, OpensExactly, PackedFrom, PacksExactly, PacksLaidOut}
 use Rattle.admission.proofs.Opening.{open-exactly}
-use Rattle.admission.proofs.PackedOpening.{open-packed-exactly}
+use Rattle.admission.proofs.PackedOpening.{packed-size, open-packed-exactly, packs-laid-out}
 use Rattle.locating.specs.Store.{plainOpening, packedOpening}
 use Rattle.locating.specs.Looks.{LooksExactly}
 use Rattle.locating.proofs.Accepted.{lookup-exactly}
@@ -27,100 +30,146 @@ use Rattle.numbers.proofs.RecordNumbers.{record-stands}
 use Rattle.kiban.specs.Written.{recordWritten, packedRecordWritten, packedLenWritten}
 use Rattle.numbered.specs.Numbers.{OpensNumbered, PacksNumbered}
 use Rattle.numbered.proofs.Numbers.{opens-numbered, packs-numbered}
-use Rattle.calls.specs.Calls.{OpenCall, PackCall, Linker, openedPlain, openedPacked, holding, LookupCalls, LinkerCalls, RecordPlaces, OutputLeft, OutputsLeft}
+use Rattle.calls.specs.Calls.{Lent, opens, packs, OpenCall, PackCall, Linker, openedPlain, openedPacked, holding, AdmittedPacked, OpenCalls, LookupCalls, LinkerCalls, RecordPlaces, OutputLeft, OutputsLeft}
 use Rattle.calls.proofs.Records.{plain-record-places, packed-record-places, packed-length}
 use Rattle.calls.proofs.Answers.{storeHeld, HoldsStore, same-held, call-looked-up, calls-alike}
 
+-- P2 of what a call was lent
+open-exact : (l : Lent) (o : Opened) → (opens l ≡ Accepted o) ↔ Admits (l .section) (l .backing) (l .blocks) (l .scratch) o
+unfolding OpensExactly
+open-exact l = open-exactly (l .section) (l .backing) (l .blocks) (l .scratch)
+
+pack-exact : (l : Lent) (room : ℕ) (p : Opened) (bytes : List ℕ)
+    → (packs l room ≡ packedAs p bytes) ↔ PackedFrom (l .section) (l .backing) (l .blocks) (l .scratch) room p bytes
+unfolding PacksExactly
+pack-exact l = open-packed-exactly (l .section) (l .backing) (l .blocks) (l .scratch)
+
+-- its result is 0 exactly if it is accepted
+open-zero : (c : OpenCall) → (c .result ≡ 0) ↔ ((o : Opened) × (opens (c .lent) ≡ Accepted o))
+unfolding OpensNumbered
+open-zero c =
+    let z = opens-numbered (c .lent .section) (c .lent .backing) (c .lent .blocks) (c .lent .scratch) .zero in
+    (λ e. z .0 (sym (c .returns) ∙ e), λ a. c .returns ∙ z .1 a)
+
+pack-zero : (c : PackCall) → (c .result ≡ 0) ↔ ((p : Opened) × ((bytes : List ℕ) × (packs (c .lent) (length (c .output)) ≡ packedAs p bytes)))
+unfolding PacksNumbered
+pack-zero c =
+    let z = packs-numbered (c .lent .section) (c .lent .backing) (c .lent .blocks) (c .lent .scratch) (length (c .output)) .zero in
+    (λ e. z .0 (sym (c .returns) ∙ e), λ a. c .returns ∙ z .1 a)
+
 -- what a plain opening that accepted leaves
-record PlainLeft (c : OpenCall) : Type 0 where
-  opened : Opened
-  accepted : openOf (c .lent .section) (c .lent .backing) (c .lent .blocks) (c .lent .scratch) ≡ Accepted opened
-  numbers : c .after ≡ recordNumbers opened
+plain-left : (c : OpenCall) (o : Opened) → opens (c .lent) ≡ Accepted o → c .after ≡ recordNumbers o
+unfolding recordWritten
+plain-left c o e = c .leaves ∙ ap (λ (r : HeaderRead). recordWritten r (c .before)) e ∙ record-stands (c .before) o (c .sixteen)
 
 -- what a packed one leaves
-record PackedLeft (c : PackCall) : Type 0 where
-  opened : Opened
-  bytes : List ℕ
-  accepted : openPackedOf (c .lent .section) (c .lent .backing) (c .lent .blocks) (c .lent .scratch) (length (c .output)) ≡ packedAs opened bytes
+record PackedLeft (c : PackCall) (opened : Opened) (bytes : List ℕ) : Type 0 where
   from : PackedFrom (c .lent .section) (c .lent .backing) (c .lent .blocks) (c .lent .scratch) (length (c .output)) opened bytes
   inside : length bytes ≤ length (c .output)
   numbers : c .after ≡ recordNumbers opened
   output : c .output-after ≡ sets (c .output) 0 bytes
   len : c .len-after ≡ length bytes
 
--- the first `*len` bytes of the output are the packed bytes
-module _ (c : PackCall) (x : PackedLeft c) where
-  first-bytes : take (c .len-after) (c .output-after) ≡ x .bytes
+packed-left : (c : PackCall) (p : Opened) (bytes : List ℕ) → packs (c .lent) (length (c .output)) ≡ packedAs p bytes → PackedLeft c p bytes
+unfolding packedWritten packedRecordWritten packedLenWritten
+packed-left c p bytes e =
+    let f = pack-exact (c .lent) (length (c .output)) p bytes .0 e in
+    let b = f .admits .holds in
+    record {
+      from = f;
+      inside = omega (arith, ap length (f .same-bytes), packed-size (c .lent .section) (f .plain) (f .admits .admits .header));
+      numbers = c .leaves ∙ ap (λ (x : Answer PackedForm). packedRecordWritten x (c .before)) e ∙ record-stands (c .before) p (c .sixteen);
+      output = c .leaves-output ∙ ap (λ (x : Answer PackedForm). packedWritten x (c .output)) e;
+      len = c .leaves-len ∙ ap (λ (x : Answer PackedForm). packedLenWritten x (c .len)) e;
+    }
+
+module _ (c : PackCall) (p : Opened) (bytes : List ℕ) (x : PackedLeft c p bytes) where
+  -- the first `*len` bytes of the output are the packed bytes
+  first-bytes : take (c .len-after) (c .output-after) ≡ bytes
   first-bytes =
       let b = x .inside in
-      ap₂ (λ (n : ℕ) (l : List ℕ). take n l) (x .len) (x .output) ∙ part-sets-same (x .bytes) (c .output) 0 (omega arith)
+      ap₂ (λ (n : ℕ) (l : List ℕ). take n l) (x .len) (x .output) ∙ part-sets-same bytes (c .output) 0 (omega arith)
 
   output-left : OutputLeft c
   output-left =
       let b = x .inside in
       let l = x .len in
       let f = x .from in
-      let e = standing-sets (x .bytes) (c .output) 0 (omega arith) in
+      let e = standing-sets bytes (c .output) 0 (omega arith) in
       record {
         len = x .len ∙ ap length (f .same-bytes) ∙ packed-length (c .lent .section) (f .plain) (f .admits .admits .header);
         inside = omega arith;
         behind =
             ap₂ (λ (n : ℕ) (l : List ℕ). drop n l) (x .len) (x .output)
-            ∙ simp zero-add at (standing-next (sets (c .output) 0 (x .bytes)) (x .bytes) (drop (0 + length (x .bytes)) (c .output)) 0 e)
+            ∙ simp zero-add at (standing-next (sets (c .output) 0 bytes) bytes (drop (0 + length bytes) (c .output)) 0 e)
             ∙ ap (λ (n : ℕ). drop n (c .output)) (sym (x .len));
       }
 
-plain-left : (c : OpenCall) → c .result ≡ 0 → PlainLeft c
-unfolding OpensNumbered recordWritten
-plain-left c z =
-    let a = opens-numbered (c .lent .section) (c .lent .backing) (c .lent .blocks) (c .lent .scratch) .zero .0 (sym (c .returns) ∙ z) in
+-- ---- P2 at the entries
+
+-- a packed opening of what is admitted packed
+module _ (c : PackCall) (o : Opened) (a : AdmittedPacked c o) where
+  admitted-packs : packs (c .lent) (length (c .output)) ≡ packedAs (packedRecord o) (packedBytes (c .lent .section) o)
+  admitted-packs =
+      pack-exact (c .lent) (length (c .output)) (packedRecord o) (packedBytes (c .lent .section) o) .1
+      (record { plain = o; admits = a; same-record = refl; same-bytes = refl })
+
+  admitted-left : PackedLeft c (packedRecord o) (packedBytes (c .lent .section) o)
+  admitted-left = packed-left c (packedRecord o) (packedBytes (c .lent .section) o) admitted-packs
+
+  admitted-layout : PackedLayout (c .lent .section) o (take (c .len-after) (c .output-after))
+  unfolding PacksLaidOut
+  admitted-layout =
+      subst⁻¹ (PackedLayout (c .lent .section) o) (first-bytes c (packedRecord o) (packedBytes (c .lent .section) o) admitted-left)
+      (packs-laid-out (c .lent .section) (c .lent .backing) (c .lent .blocks) (c .lent .scratch) (length (c .output)) o a)
+
+pub open-calls : OpenCalls
+open-calls =
     record {
-      opened = a .0;
-      accepted = a .1;
-      numbers = c .leaves ∙ ap (λ (r : HeaderRead). recordWritten r (c .before)) (a .1) ∙ record-stands (c .before) (a .0) (c .sixteen);
+      plain = λ c.
+          record {
+            zero = (
+              λ z. let x = open-zero c .0 z in (x .0, open-exact (c .lent) (x .0) .0 (x .1)),
+              λ a. open-zero c .1 (a .0, open-exact (c .lent) (a .0) .1 (a .1)),
+            );
+            numbers = λ o a. plain-left c o (open-exact (c .lent) o .1 a);
+          };
+      packed = λ c.
+          record {
+            zero = (
+              λ z.
+                  let x = pack-zero c .0 z in
+                  let f = packed-left c (x .0) (x .1 .0) (x .1 .1) .from in
+                  (f .plain, f .admits),
+              λ a. pack-zero c .1 (packedRecord (a .0), (packedBytes (c .lent .section) (a .0), admitted-packs c (a .0) (a .1))),
+            );
+            numbers = λ o a. admitted-left c o a .numbers;
+            layout = admitted-layout c;
+          };
     }
 
-packed-left : (c : PackCall) → c .result ≡ 0 → PackedLeft c
-unfolding PacksNumbered PacksExactly packedWritten packedRecordWritten packedLenWritten
-packed-left c z =
-    let a =
-    packs-numbered (c .lent .section) (c .lent .backing) (c .lent .blocks) (c .lent .scratch) (length (c .output)) .zero .0 (sym (c .returns) ∙ z)
-    in
-    let e = a .1 .1 in
-    let f =
-    open-packed-exactly (c .lent .section) (c .lent .backing) (c .lent .blocks) (c .lent .scratch) (length (c .output)) (a .0) (a .1 .0) .0 e
-    in
-    let b = f .admits .holds in
-    record {
-      opened = a .0;
-      bytes = a .1 .0;
-      accepted = e;
-      from = f;
-      inside = omega (arith, ap length (f .same-bytes));
-      numbers =
-          c .leaves ∙ ap (λ (x : Answer PackedForm). packedRecordWritten x (c .before)) e ∙ record-stands (c .before) (a .0) (c .sixteen);
-      output = c .leaves-output ∙ ap (λ (x : Answer PackedForm). packedWritten x (c .output)) e;
-      len = c .leaves-len ∙ ap (λ (x : Answer PackedForm). packedLenWritten x (c .len)) e;
-    }
+-- ---- P3 and P5 at the entries
 
 -- a linker holds an accepted store
 linker-holds : (k : Linker) → (o : Opened) × HoldsStore (holding k) o
 unfolding holding storeHeld
 linker-holds (openedPlain c z) =
-    let x = plain-left c z in (
-      x .opened,
+    let x = open-zero c .0 z in (
+      x .0,
       record {
-        store = plainOpening (c .lent .scratch) (x .accepted);
-        numbers = x .numbers;
+        store = plainOpening (c .lent .scratch) (x .1);
+        numbers = plain-left c (x .0) (x .1);
       },
     )
 linker-holds (openedPacked c z) =
-    let x = packed-left c z in (
-      x .opened,
+    let x = pack-zero c .0 z in
+    let y = packed-left c (x .0) (x .1 .0) (x .1 .1) in (
+      x .0,
       record {
         store =
-            packedOpening (c .lent .section) (c .lent .scratch) (length (c .output)) (x .accepted ∙ ap (packedAs (x .opened)) (sym (first-bytes c x)));
-        numbers = x .numbers;
+            packedOpening (c .lent .section) (c .lent .scratch) (length (c .output))
+            (x .1 .1 ∙ ap (packedAs (x .0)) (sym (first-bytes c (x .0) (x .1 .0) y)));
+        numbers = y .numbers;
       },
     )
 
@@ -141,22 +190,23 @@ linker-calls a b key limit s =
     (two-linkers (storeHeld (holding a) (x .0)) (storeHeld (holding b) (y .0)) (x .1 .store) (y .1 .store) key limit
     (same-held (holding a) (holding b) (x .0) (y .0) key limit s))
 
+-- ---- what the openings leave
+
 -- the sixteen numbers
 pub record-places : RecordPlaces
-unfolding OpensExactly
 record-places =
     record {
       plain = λ c z.
-          let x = plain-left c z in
-          let a = open-exactly (c .lent .section) (c .lent .backing) (c .lent .blocks) (c .lent .scratch) (x .opened) .0 (x .accepted) in
-          x .numbers ∙ plain-record-places (c .lent .section) (x .opened) (a .header);
+          let x = open-zero c .0 z in
+          plain-left c (x .0) (x .1) ∙ plain-record-places (c .lent .section) (x .0) (open-exact (c .lent) (x .0) .0 (x .1) .header);
       packed = λ c z.
-          let x = packed-left c z in
-          let f = x .from in
-          x .numbers ∙ ap recordNumbers (f .same-record) ∙ packed-record-places (c .lent .section) (f .plain) (f .admits .admits .header);
+          let x = pack-zero c .0 z in
+          let y = packed-left c (x .0) (x .1 .0) (x .1 .1) in
+          let f = y .from in
+          y .numbers ∙ ap recordNumbers (f .same-record) ∙ packed-record-places (c .lent .section) (f .plain) (f .admits .admits .header);
     }
 
 -- the output and its length
 pub outputs-left : OutputsLeft
 unfolding OutputsLeft
-outputs-left c z = output-left c (packed-left c z)
+outputs-left c z = let x = pack-zero c .0 z in output-left c (x .0) (x .1 .0) (packed-left c (x .0) (x .1 .0) (x .1 .1))

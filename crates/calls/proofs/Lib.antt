@@ -2,3 +2,4 @@ pub mod Refusals
 pub mod Answers
 pub mod Records
 pub mod Calls
+pub mod Given

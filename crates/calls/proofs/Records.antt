@@ -15,6 +15,7 @@ use Rattle.encoding.specs.Encoding.{checksumFlag, trailerLen}
 use Rattle.header.specs.declared.Opened.{Opened}
 use Rattle.header.specs.Header.{flagsOf, hasFlag, encodingAt, fieldsOf, scanFlagged, scanPartLen, withScan, packedRecord, arenaEnd}
 use Rattle.header.specs.Facts.{Header}
+use Rattle.header.proofs.Numbers.{scan-flag, no-scan-flag, header-numbers}
 use Rattle.packed.specs.Packed.{packedBytes}
 use Rattle.packed.proofs.Lengths.{length-packed}
 use Rattle.numbers.specs.Numbers.{flagNumber, recordNumbers}
@@ -31,8 +32,7 @@ flag-number n = go (eqb (n / 1 % 2) 1) refl
 
 module _ (s : List ℕ) (o : Opened) (h : Header s o) where
   addresses : o .count * o .encoding .address ≡ leAt s 16 4 * leAt s 32 4
-  unfolding withScan fieldsOf encodingAt
-  addresses = ap (λ (r : Opened). r .count * r .encoding .address) (h .numbers)
+  addresses = let n = h .numbers in λ i. n .count i * n .address i
 
   -- the scan place
   scan-place : o .scan ≡ scanNumber s
@@ -41,24 +41,24 @@ module _ (s : List ℕ) (o : Opened) (h : Header s o) where
     where
       go : (b : Bool) → scanFlagged s ≡ b → o .scan ≡ scanNumber s
       go true e =
-          let p = h .scanned e .place in
+          let p = h .scanned (scan-flag s (h .flags) e) .place in
           let d : o .scan ≡ length s - (24 + leAt s 16 4 * leAt s 32 4 + 13) = omega (arith, addresses) in
           d ∙ sym (if-true _ _ _ e)
-      go false e = h .unscanned e ∙ sym (if-false _ _ _ e)
+      go false e = h .unscanned (no-scan-flag s (h .flags) e) ∙ sym (if-false _ _ _ e)
 
   pub plain-record-places : recordNumbers o ≡ headerPlaces s (leAt s 24 8) (scanNumber s) 0
   unfolding recordNumbers headerPlaces withScan fieldsOf encodingAt flagsOf flagNumber if_then_else_
   plain-record-places =
-      ap (λ (r : Opened). recordNumbers (withScan r (o .scan))) (h .numbers) ∙ rw (flag-number (flagsOf s), scan-place)
+      ap (λ (r : Opened). recordNumbers (withScan r (o .scan))) (header-numbers s o h) ∙ rw (flag-number (flagsOf s), scan-place)
 
   pub packed-record-places : recordNumbers (packedRecord o) ≡ headerPlaces s (packedStart s) 0 1
   unfolding recordNumbers headerPlaces packedStart packedRecord withScan fieldsOf encodingAt flagsOf flagNumber if_then_else_
-  packed-record-places = ap (λ (r : Opened). recordNumbers (packedRecord r)) (h .numbers) ∙ rw (flag-number (flagsOf s))
+  packed-record-places = ap (λ (r : Opened). recordNumbers (packedRecord r)) (header-numbers s o h) ∙ rw (flag-number (flagsOf s))
 
   pub packed-length : length (packedBytes s o) ≡ packedStart s + (arenaStop s - leAt s 24 8) + 5
-  unfolding packedStart arenaStop arenaEnd withScan fieldsOf
+  unfolding packedStart arenaStop arenaEnd
   packed-length =
-      let start : o .arena ≡ leAt s 24 8 = ap (λ (r : Opened). r .arena) (h .numbers) in
-      let buckets : o .buckets ≡ leAt s 20 4 = ap (λ (r : Opened). r .buckets) (h .numbers) in
+      let start = h .stored in
+      let buckets = h .numbers .buckets in
       let end : arenaEnd s o ≡ arenaStop s = ap (λ (n : ℕ). if eqb n 0 then length s - trailerLen else n) scan-place in
       omega (arith, length-packed s o h, addresses)

@@ -7,12 +7,12 @@ use Rattle.num.specs.Answer.{Answer, given, refused}
 use Rattle.header.specs.declared.HeaderRead.{HeaderRead}
 use Rattle.header.specs.declared.HeaderRead.the-variants as header-read
 use Rattle.header.specs.Header.{headerNumber}
-use Rattle.packing.specs.Packing.{PackedForm, openPackedOf, packedRead, packedNumber, packedWritten}
+use Rattle.packing.specs.Packing.{PackedForm, packedRead, packedNumber, packedWritten}
 use Rattle.locator.specs.declared.Located.{Located}
 use Rattle.locator.specs.declared.Located.the-variants.{Found, Missing, Refused}
 use Rattle.locator.specs.Locator.{locatedNumber}
 use Rattle.kiban.specs.Written.{recordWritten, packedRecordWritten, packedLenWritten, answerWritten}
-use Rattle.calls.specs.Calls.{RefusalsWriteNothing}
+use Rattle.calls.specs.Calls.{packs, RefusalsWriteNothing}
 
 -- what is left, where the number is not 0
 record-kept : (r : HeaderRead) (before : List ℕ) → (headerNumber r ≡ 0 → ⊥) → recordWritten r before ≡ before
@@ -37,8 +37,7 @@ refusals-write-nothing =
     record {
       opening = λ c n. c .leaves ∙ record-kept _ (c .before) (λ z. n (c .returns ∙ z));
       packing = λ c n.
-          let k = pack-kept (openPackedOf (c .lent .section) (c .lent .backing) (c .lent .blocks) (c .lent .scratch) _) (c .output) (c .before) (c .len)
-          (λ z. n (c .returns ∙ z)) in
+          let k = pack-kept (packs (c .lent) _) (c .output) (c .before) (c .len) (λ z. n (c .returns ∙ z)) in
           (c .leaves-output ∙ k .0, (c .leaves ∙ k .1 .0, c .leaves-len ∙ k .1 .1));
       lookup = λ h key limit c n. c .leaves ∙ answer-kept _ (c .before) (λ z. n (c .returns ∙ z));
     }

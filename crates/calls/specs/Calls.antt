@@ -6,19 +6,25 @@ use mathlib.Core.List.{List, [], _∷_}
 use Prim.Native.Nat.{ℕ, _+_, _*_, _-_, _/_, _%_, _≤_}
 use lib.Dec.{eqb}
 use lib.ListN.{length, getD, take, drop}
+use Rattle.num.specs.Answer.{Answer}
 use Rattle.num.specs.Choice.{if_then_else_}
 use Rattle.num.specs.Number.{leAt}
 use Rattle.crc32.specs.V42.{crcOf}
 use Rattle.sstable.specs.declared.Kind.the-variants.{Put, Tombstone}
-use Rattle.header.specs.Header.{headerNumber}
+use Rattle.header.specs.declared.Opened.{Opened}
+use Rattle.header.specs.declared.HeaderRead.{HeaderRead}
+use Rattle.header.specs.Header.{headerNumber, packedRecord}
+use Rattle.header.specs.Facts.{IsRecord}
 use Rattle.opening.specs.Open.{openOf}
-use Rattle.packing.specs.Packing.{openPackedOf, packedRead, packedNumber, packedWritten}
+use Rattle.packing.specs.Packing.{PackedForm, openPackedOf, packedRead, packedNumber, packedWritten}
+use Rattle.admission.specs.Layout.{PackedLayout}
+use Rattle.admission.specs.Admits.{Admits, AdmitsPacked}
 use Rattle.locator.specs.Locator.{locatedNumber}
 use Rattle.lookup.specs.Value.{valueNumber, valuePart}
 use Rattle.locating.specs.Store.{LinkerStore, Version}
 use Rattle.locating.specs.Looks.{NoneWithin, Greatest}
 use Rattle.linking.specs.Linkers.{SameVersions}
-use Rattle.numbers.specs.Numbers.{openedOf}
+use Rattle.numbers.specs.Numbers.{recordNumbers, openedOf}
 use Rattle.kiban.specs.Written.{recordWritten, packedRecordWritten, packedLenWritten, lookupOf, answerWritten}
 
 -- what a place holds
@@ -34,6 +40,14 @@ pub record Lent : Type 0 where
   pub blocks : List ℕ
   pub scratch : ℕ
 
+-- what the plain opening answers
+abbrev pub opens : Lent → HeaderRead
+opens lent = openOf (lent .section) (lent .backing) (lent .blocks) (lent .scratch)
+
+-- what the packed opening answers, with an output of a length
+abbrev pub packs : Lent → ℕ → Answer PackedForm
+packs lent room = openPackedOf (lent .section) (lent .backing) (lent .blocks) (lent .scratch) room
+
 -- a call of `kiban_open`, with any sixteen numbers in its places before
 pub record OpenCall : Type 0 where
   pub lent : Lent
@@ -41,8 +55,8 @@ pub record OpenCall : Type 0 where
   pub sixteen : length before ≡ 16
   pub result : ℕ
   pub after : List ℕ
-  pub returns : result ≡ headerNumber (openOf (lent .section) (lent .backing) (lent .blocks) (lent .scratch))
-  pub leaves : after ≡ recordWritten (openOf (lent .section) (lent .backing) (lent .blocks) (lent .scratch)) before
+  pub returns : result ≡ headerNumber (opens lent)
+  pub leaves : after ≡ recordWritten (opens lent) before
 
 -- a call of `kiban_open_packed`, with any output, any sixteen numbers and any length before
 pub record PackCall : Type 0 where
@@ -55,12 +69,10 @@ pub record PackCall : Type 0 where
   pub output-after : List ℕ
   pub after : List ℕ
   pub len-after : ℕ
-  pub returns : result
-      ≡ packedNumber (packedRead (openPackedOf (lent .section) (lent .backing) (lent .blocks) (lent .scratch) (length output)))
-  pub leaves-output : output-after
-      ≡ packedWritten (openPackedOf (lent .section) (lent .backing) (lent .blocks) (lent .scratch) (length output)) output
-  pub leaves : after ≡ packedRecordWritten (openPackedOf (lent .section) (lent .backing) (lent .blocks) (lent .scratch) (length output)) before
-  pub leaves-len : len-after ≡ packedLenWritten (openPackedOf (lent .section) (lent .backing) (lent .blocks) (lent .scratch) (length output)) len
+  pub returns : result ≡ packedNumber (packedRead (packs lent (length output)))
+  pub leaves-output : output-after ≡ packedWritten (packs lent (length output)) output
+  pub leaves : after ≡ packedRecordWritten (packs lent (length output)) before
+  pub leaves-len : len-after ≡ packedLenWritten (packs lent (length output)) len
 
 -- what a linker holds: the bytes in which it looks keys up, the data, the block list, and the sixteen numbers
 pub record Holding : Type 0 where
@@ -93,6 +105,46 @@ pub record LookupCall (h : Holding) (key : List ℕ) (limit : ℕ) : Type 0 wher
   pub after : List ℕ
   pub returns : result ≡ locatedNumber (lookupOf (h .bytes) (h .numbers) key limit)
   pub leaves : after ≡ answerWritten (lookupOf (h .bytes) (h .numbers) key limit) before
+
+-- ---- what the openings accept
+
+-- what a call of `kiban_open` was lent is admitted with this record
+abbrev pub Admitted : OpenCall → Opened → Type 0
+Admitted c o = Admits (c .lent .section) (c .lent .backing) (c .lent .blocks) (c .lent .scratch) o
+
+-- the result is 0 exactly if it is admitted with some record, whose numbers then stand in the sixteen places
+pub record OpensAdmitted (c : OpenCall) : Type 0 where
+  pub zero : (c .result ≡ 0) ↔ ((o : Opened) × Admitted c o)
+  pub numbers : (o : Opened) → Admitted c o → c .after ≡ recordNumbers o
+
+-- what a call of `kiban_open_packed` was lent is admitted packed; the record is the one that the section's header says
+abbrev pub AdmittedPacked : PackCall → Opened → Type 0
+AdmittedPacked c o = AdmitsPacked (c .lent .section) (c .lent .backing) (c .lent .blocks) (c .lent .scratch) (length (c .output)) o
+
+-- the result is 0 exactly if it is admitted packed with some record; then the places have the numbers of the packed record, and the
+-- first `*len` bytes of the output are laid out as the packed form
+pub record PacksAdmitted (c : PackCall) : Type 0 where
+  pub zero : (c .result ≡ 0) ↔ ((o : Opened) × AdmittedPacked c o)
+  pub numbers : (o : Opened) → AdmittedPacked c o → c .after ≡ recordNumbers (packedRecord o)
+  pub layout : (o : Opened) → AdmittedPacked c o → PackedLayout (c .lent .section) o (take (c .len-after) (c .output-after))
+
+-- promise P2 at the entries
+pub record OpenCalls : Type 0 where
+  pub plain : (c : OpenCall) → OpensAdmitted c
+  pub packed : (c : PackCall) → PacksAdmitted c
+
+-- ---- question 24
+
+-- the sixteen numbers are a record's, checksums and packed 0 or 1 and the last three 0, and the bytes give this record
+pub record GivesRecord (h : Holding) : Type 0 where
+  pub checksums : place (h .numbers) 10 ≤ 1
+  pub packed : place (h .numbers) 12 ≤ 1
+  pub zeros : (place (h .numbers) 13 ≡ 0) × (place (h .numbers) 14 ≡ 0) × (place (h .numbers) 15 ≡ 0)
+  pub given : IsRecord (h .bytes) (openedOf (h .numbers))
+
+-- the result of a lookup, whatever bytes and numbers it is lent, is 24 exactly if that is not so
+unfoldable pub RecordCalls : Type 0
+RecordCalls = (h : Holding) (key : List ℕ) (limit : ℕ) (c : LookupCall h key limit) → (c .result ≡ 24) ↔ (GivesRecord h → ⊥)
 
 -- ---- one linker
 

@@ -1,6 +1,6 @@
 -- The places and lengths that an accepted header's numbers say, and their bounds.
 -- Assumes nothing.
-use mathlib.Core.Path.{_≡_, refl, sym, ap, _∙_, subst⁻¹}
+use mathlib.Core.Path.{_≡_, refl}
 use mathlib.Core.Bool.{Bool, true, false}
 use mathlib.Core.List.{List}
 use Prim.Native.Nat.{ℕ, _+_, _*_, _-_, _^_, _<_, _≤_}
@@ -11,10 +11,11 @@ use lib.ListN.{length}
 use borrow.Author.Tests.{eqb-false}
 use Rattle.num.proofs.Choice.{if-case, oneOf-case}
 use Rattle.num.proofs.Parts.{entry-inside}
-use Rattle.encoding.specs.Encoding.{trailerLen, headerLen, scanHeaderLen, bucketsOf, arenaStartOf}
+use Rattle.encoding.specs.Encoding.{trailerLen, headerLen, scanHeaderLen}
 use Rattle.header.specs.declared.Opened.{Opened}
-use Rattle.header.specs.Header.{scanFlagged, scanPartLen, packedRecord, arenaEnd}
+use Rattle.header.specs.Header.{scanFlagged, arenaEnd}
 use Rattle.header.specs.Facts.{Dimensions, Scan, Header, PackedHeader, IsRecord, fromPlain, fromPacked}
+use Rattle.header.proofs.Numbers.{scan-flag, no-scan-flag}
 
 -- a product of a number of keys and a width
 pub product-le : (n k b : ℕ) → n < 2 ^ 31 → k ≤ b → n * k ≤ 2 ^ 31 * b
@@ -28,7 +29,6 @@ module _ (o : Opened) (d : Dimensions o) where
 
   -- at least one bucket, and at most 2^30
   pub buckets-range : (1 ≤ o .buckets) × (o .buckets ≤ 2 ^ 30) × (o .count ≤ 2 * o .buckets) × (2 * o .buckets ≤ o .count + 1)
-  unfolding bucketsOf
   buckets-range = let h = d .halved in let n = d .some in let f = d .few in (omega arith, omega arith, omega arith, omega arith)
 
   -- the addresses of all keys are less than 2^35 bytes
@@ -40,8 +40,7 @@ module _ (o : Opened) (d : Dimensions o) where
 module _ (s : List ℕ) (o : Opened) (h : Header s o) where
   -- the arena starts behind the header, the pilots and the slots
   pub arena-start : o .arena ≡ headerLen + 4 * o .buckets + o .count * (o .encoding .address + 2)
-  unfolding arenaStartOf
-  arena-start = h .start ∙ ap (λ (b : ℕ). headerLen + 4 * b + o .count * (o .encoding .address + 2)) (sym (h .dimensions .halved))
+  arena-start = h .start
 
   -- the four bytes of a pilot lie before the arena
   pub pilot-inside : (bucket : ℕ) → bucket < o .buckets → headerLen + 4 * bucket + 4 ≤ o .arena
@@ -56,12 +55,11 @@ module _ (s : List ℕ) (o : Opened) (h : Header s o) where
   scan-part n = go (scanFlagged s) refl
     where
       go : (t : Bool) → scanFlagged s ≡ t → Scan s o
-      go true t = h .scanned t
-      go false t = absurd (n (h .unscanned t))
+      go true t = h .scanned (scan-flag s (h .flags) t)
+      go false t = absurd (n (h .unscanned (no-scan-flag s (h .flags) t)))
 
   -- the scan part, its length and the last five bytes end the section
   pub scan-end : Scan s o → o .scan + scanHeaderLen + o .count * o .encoding .address + 8 + trailerLen ≡ length s
-  unfolding scanPartLen
   scan-end k = omega (arith, k .place)
 
 -- ---- of a packed record
@@ -69,12 +67,7 @@ module _ (s : List ℕ) (o : Opened) (h : Header s o) where
 module _ (s : List ℕ) (o : Opened) (h : PackedHeader s o) where
   -- the arena starts behind the header, pilots of three bytes and addresses without fingerprints
   pub packed-start : o .arena ≡ headerLen + 3 * o .buckets + o .count * o .encoding .address
-  unfolding packedRecord
-  packed-start = subst⁻¹ (λ (r : Opened). r .arena ≡ headerLen + 3 * r .buckets + r .count * r .encoding .address) (h .numbers) refl
-
-  pub packed-unscanned : o .scan ≡ 0
-  unfolding packedRecord
-  packed-unscanned = ap (λ (r : Opened). r .scan) (h .numbers)
+  packed-start = h .start
 
   -- the three bytes of a pilot lie before the arena
   pub packed-pilot-inside : (bucket : ℕ) → bucket < o .buckets → headerLen + 3 * bucket + 3 ≤ o .arena
@@ -92,7 +85,7 @@ arena-end s o (fromPlain h) =
 arena-end s o (fromPacked h) =
     if-case (λ n. (o .arena < n) × (n ≤ length s - trailerLen)) (eqb (o .scan) 0) _ _
     (λ _. (h .below, omega arith))
-    (λ f. absurd (eqb-false (o .scan) 0 f (packed-unscanned s o h)))
+    (λ f. absurd (eqb-false (o .scan) 0 f (h .unscanned)))
 
 pub record-dimensions : (s : List ℕ) (o : Opened) → IsRecord s o → Dimensions o
 record-dimensions s o (fromPlain h) = h .dimensions

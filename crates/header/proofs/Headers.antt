@@ -8,15 +8,14 @@ use native.Mathlib.Omega.{arith}
 use lib.ListN.{length}
 use borrow.Author.Tests.{ltb-true, lt-ltb}
 use Rattle.num.specs.Choice.{if_then_else_, both, either, oneOf}
-use Rattle.num.specs.Number.{leAt}
-use Rattle.num.proofs.Choice.{both-true, true-both, false-true, if-true, if-false}
-use Rattle.encoding.specs.Encoding.{trailerLen, arenaStartOf}
+use Rattle.num.proofs.Choice.{both-true}
+use Rattle.encoding.specs.Encoding.{trailerLen}
 use Rattle.header.specs.declared.Opened.{Opened}
-use Rattle.header.specs.declared.HeaderRead.{HeaderRead}
 use Rattle.header.specs.declared.HeaderRead.the-variants.{Accepted, Refused}
-use Rattle.header.specs.Header.{begins, flagsOf, fieldsOf, dimensions, arenaBelow, scanFlagged, scanPartLen, scanPlaceOf, scanPart, scanSettings, withScan, scannedOf, headerOf, fitsPacked, packedRecord}
-use Rattle.header.specs.Facts.{Dimensions, Header, PackedHeader}
+use Rattle.header.specs.Header.{begins, flagsOf, fieldsOf, dimensions, arenaBelow, scanFlagged, scanPartLen, scanPlaceOf, scanPart, scanSettings, withScan, scannedOf, headerOf}
+use Rattle.header.specs.Facts.{Header}
 use Rattle.header.proofs.Answers.{scanned-yes, header-scanned, header-unscanned}
+use Rattle.header.proofs.Numbers.{scan-flag, no-scan-flag, fields-numbers, numbers-moved, header-numbers}
 use Rattle.header.proofs.Questions.{begins-yes, yes-begins, dimensions-yes, yes-dimensions, scan-yes, yes-scan, scan-place}
 
 pub below-yes : (s : List ℕ) (o : Opened) → arenaBelow s o ≡ true → o .arena < length s - trailerLen
@@ -31,35 +30,39 @@ yes-below s o h = lt-ltb _ _ h
 
 module _ (s : List ℕ) (b : begins s ≡ true) (d : dimensions (fieldsOf s) (flagsOf s) ≡ true) (l : arenaBelow s (fieldsOf s) ≡ true) where
   unscanned-facts : scanFlagged s ≡ false → Header s (fieldsOf s)
-  unfolding fieldsOf withScan
+  unfolding fieldsOf flagsOf
   unscanned-facts f =
       let q = dimensions-yes (fieldsOf s) (flagsOf s) d in
       record {
+        plain = refl;
         begins = begins-yes s b;
-        numbers = refl;
+        numbers = fields-numbers s;
         dimensions = q .0;
         flags = q .1;
+        stored = refl;
         start = q .2;
         below = below-yes s (fieldsOf s) l;
-        scanned = λ t. false-true (sym f ∙ t);
+        scanned = λ t. let g = no-scan-flag s (q .1) f in absurd (omega arith);
         unscanned = λ _. refl;
       }
 
   scanned-facts : scanFlagged s ≡ true → scanPart s (fieldsOf s) ≡ true → scanSettings s (scanPlaceOf s (fieldsOf s)) (fieldsOf s .count) ≡ true
       → Header s (withScan (fieldsOf s) (scanPlaceOf s (fieldsOf s)))
-  unfolding fieldsOf withScan
+  unfolding fieldsOf flagsOf withScan
   scanned-facts t p r =
       let q = dimensions-yes (fieldsOf s) (flagsOf s) d in
       let k = q .0 in
       record {
+        plain = refl;
         begins = begins-yes s b;
-        numbers = refl;
+        numbers = numbers-moved s (fieldsOf s) _ _ _ (fields-numbers s);
         dimensions = record { some = k .some; few = k .few; halved = k .halved; widths = k .widths };
         flags = q .1;
+        stored = refl;
         start = q .2;
         below = below-yes s (fieldsOf s) l;
         scanned = λ _. scan-yes s (fieldsOf s) p r;
-        unscanned = λ f. false-true (sym f ∙ t);
+        unscanned = λ f. let g = scan-flag s (q .1) t in absurd (omega arith);
       }
 
 -- an accepted header has the facts
@@ -123,23 +126,23 @@ refused-number s n e =
 
 module _ (s : List ℕ) (o : Opened) (h : Header s o) where
   sizes : dimensions (withScan o 0) (flagsOf s) ≡ true
-  unfolding withScan
+  unfolding withScan flagsOf
   sizes =
       let d = h .dimensions in
       yes-dimensions (withScan o 0) (flagsOf s) (record { some = d .some; few = d .few; halved = d .halved; widths = d .widths }) (h .flags) (h .start)
 
   unscanned-header : scanFlagged s ≡ false → Accepted (withScan o 0) ≡ headerOf s
   unfolding withScan scanFlagged
-  unscanned-header t = header-unscanned s (withScan o 0) (flagsOf s) (h .numbers) refl (yes-begins s (h .begins)) sizes (h .below) t
+  unscanned-header t = header-unscanned s (withScan o 0) (flagsOf s) (header-numbers s o h) refl (yes-begins s (h .begins)) sizes (h .below) t
 
   scanned-header : scanFlagged s ≡ true → Accepted o ≡ headerOf s
   unfolding withScan scanFlagged scanPart scanPlaceOf scanPartLen
   scanned-header t =
-      let k = h .scanned t in
+      let k = h .scanned (scan-flag s (h .flags) t) in
       let y = yes-scan s o k in
       let e : scanPlaceOf s o ≡ o .scan = scan-place s o k in
       scanned-yes s (withScan o 0) (o .scan) (sym e) (y .0) (ap (λ (n : ℕ). scanSettings s n (o .count)) (sym e) ∙ y .1)
-      ∙ header-scanned s (withScan o 0) (flagsOf s) (h .numbers) refl (yes-begins s (h .begins)) sizes (h .below) t
+      ∙ header-scanned s (withScan o 0) (flagsOf s) (header-numbers s o h) refl (yes-begins s (h .begins)) sizes (h .below) t
 
 -- a header with the facts is accepted
 pub facts-header : (s : List ℕ) (o : Opened) → Header s o → headerOf s ≡ Accepted o
@@ -148,19 +151,7 @@ facts-header s o h = go (scanFlagged s) refl
   where
     go : (t : Bool) → scanFlagged s ≡ t → headerOf s ≡ Accepted o
     go true t = sym (scanned-header s o h t)
-    go false t = sym (ap (λ (n : ℕ). Accepted (withScan o n)) (h .unscanned t) ∙ unscanned-header s o h t)
-
--- ---- question 24
-
--- a record that a header gave is plain
-pub header-plain : (s : List ℕ) (o : Opened) → Header s o → o .packed ≡ false
-unfolding withScan fieldsOf
-header-plain s o h = ap (λ (r : Opened). r .packed) (h .numbers)
-
--- a packed record of question 24 is packed
-pub header-packed : (s : List ℕ) (o : Opened) → PackedHeader s o → o .packed ≡ true
-unfolding packedRecord
-header-packed s o h = ap (λ (r : Opened). r .packed) (h .numbers)
+    go false t = sym (ap (λ (n : ℕ). Accepted (withScan o n)) (h .unscanned (no-scan-flag s (h .flags) t)) ∙ unscanned-header s o h t)
 
 -- the section of an accepted header has its last five bytes
 pub accepted-long : (s : List ℕ) (o : Opened) → headerOf s ≡ Accepted o → 5 ≤ length s

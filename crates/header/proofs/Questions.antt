@@ -1,20 +1,20 @@
 -- What a yes to each question says in plain terms, and back.
 -- Assumes nothing.
 use mathlib.Core.Path.{_≡_, refl, sym, ap, ap₂, _∙_}
-use mathlib.Core.Bool.{Bool, true, false, Bool·beq}
+use mathlib.Core.Bool.{Bool, true, false}
 use mathlib.Core.List.{List, _∷_}
-use Prim.Native.Nat.{ℕ, _+_, _-_, _^_, _<_, _≤_}
+use Prim.Native.Nat.{ℕ, _+_, _*_, _-_, _^_, _<_, _≤_}
 use native.Mathlib.Omega.{arith}
 use lib.Dec.{eqb, leb}
 use lib.ListN.{length}
 use borrow.Author.Tests.{leb-true, le-leb, lt-leb, ltb-true, lt-ltb, le-ltb, eqb-true, eqb-false, eq-eqb, ne-eqb}
 use Rattle.num.specs.Choice.{either, oneOf}
 use Rattle.num.specs.Number.{Bytes, leAt}
-use Rattle.num.proofs.Choice.{both-no, both-yes, both-true, true-both, false-true}
+use Rattle.num.proofs.Choice.{both-no, both-yes, both-true, true-both}
 use Rattle.num.proofs.Parts.{equalBytes-number}
 use Rattle.num.proofs.Order.{equalBytes-true, equalBytes-same}
 use Rattle.encoding.specs.declared.Encoding.{Encoding}
-use Rattle.encoding.specs.Encoding.{Widths, magic, scanMagic, trailerLen, stride, maxScanPrefix, checksumFlag, scanFlag, arenaStartOf}
+use Rattle.encoding.specs.Encoding.{Widths, magic, scanMagic, trailerLen, stride, maxScanPrefix, bucketsOf, arenaStartOf}
 use Rattle.header.specs.declared.Opened.{Opened}
 use Rattle.header.specs.Header.{standsAt, within, begins, allowedWidths, dimensions, scanPartLen, scanPlaceOf, scanPart, scanSettings, withScan, fitsPacked}
 use Rattle.header.specs.Facts.{Begins, Dimensions, Scan}
@@ -63,8 +63,8 @@ one-or-two xs w l h = go (eqb w 1) refl
 
 -- question 4, but for the comparison with the section's length
 pub dimensions-yes : (o : Opened) (flags : ℕ) → dimensions o flags ≡ true
-    → Dimensions o × (flags ≤ checksumFlag + scanFlag) × (o .arena ≡ arenaStartOf (o .count) (o .encoding .address))
-unfolding dimensions
+    → Dimensions o × (flags ≤ 3) × (o .arena ≡ 64 + 4 * o .buckets + o .count * (o .encoding .address + 2))
+unfolding dimensions bucketsOf arenaStartOf
 dimensions-yes o flags t =
     let a = both-true _ _ t in
     let b = both-true _ _ (a .1) in
@@ -77,20 +77,20 @@ dimensions-yes o flags t =
         halved = eqb-true _ _ (c .0);
         widths = widths-yes (o .encoding) (d .0);
       },
-      leb-true flags (checksumFlag + scanFlag) (e .0),
-      eqb-true _ _ (e .1),
+      leb-true flags 3 (e .0),
+      eqb-true _ _ (e .1) ∙ ap (λ (b : ℕ). 64 + 4 * b + o .count * (o .encoding .address + 2)) (sym (eqb-true _ _ (c .0))),
     )
 
-pub yes-dimensions : (o : Opened) (flags : ℕ) → Dimensions o → flags ≤ checksumFlag + scanFlag → o .arena ≡ arenaStartOf (o .count) (o .encoding .address)
+pub yes-dimensions : (o : Opened) (flags : ℕ) → Dimensions o → flags ≤ 3 → o .arena ≡ 64 + 4 * o .buckets + o .count * (o .encoding .address + 2)
     → dimensions o flags ≡ true
-unfolding dimensions
+unfolding dimensions bucketsOf arenaStartOf
 yes-dimensions o flags d f a =
     true-both _ _ (le-leb 1 (o .count) (d .some))
     (true-both _ _ (lt-ltb (o .count) (2 ^ 31) (d .few))
     (true-both _ _ (eq-eqb _ _ (d .halved))
     (true-both _ _ (yes-widths (o .encoding) (d .widths))
-    (true-both _ _ (le-leb flags (checksumFlag + scanFlag) f)
-    (eq-eqb _ _ a)))))
+    (true-both _ _ (le-leb flags 3 f)
+    (eq-eqb _ _ (a ∙ ap (λ (b : ℕ). 64 + 4 * b + o .count * (o .encoding .address + 2)) (d .halved)))))))
 
 within-yes : (least most n : ℕ) → within least most n ≡ true → (least ≤ n) × (n ≤ most)
 unfolding within
@@ -177,11 +177,11 @@ scan-yes s o p q =
 
 -- a scan place is where the scan part starts
 pub scan-place : (s : List ℕ) (o : Opened) → Scan s o → scanPlaceOf s o ≡ o .scan
-unfolding scanPlaceOf
+unfolding scanPlaceOf scanPartLen
 scan-place s o h = omega (arith, h .place)
 
 pub yes-scan : (s : List ℕ) (o : Opened) → Scan s o → (scanPart s o ≡ true) × (scanSettings s (scanPlaceOf s o) (o .count) ≡ true)
-unfolding scanPart scanSettings standsAt scanMagic
+unfolding scanPart scanSettings scanPartLen standsAt scanMagic
 yes-scan s o h =
     let e = scan-place s o h in (
       true-both _ _ (eq-eqb _ _ (h .stored))

@@ -9,11 +9,10 @@ use Rattle.num.specs.Number.{leAt}
 use Rattle.crc32.specs.V42.{crcOf}
 use Rattle.block.specs.Walk.{Entry}
 use Rattle.point.specs.Hash.{slotOf, fingerprintOf}
-use Rattle.encoding.specs.Encoding.{keyHeaderLenOf, versionLenOf}
 use Rattle.header.specs.declared.Opened.{Opened}
 use Rattle.opened.specs.Opened.{isRecord}
 use Rattle.validate.specs.Walk.{valueOf}
-use Rattle.agreement.specs.Keys.{addressOf, keyHeaderOf, versionCount, suffixPlace, anchorIndex, keyAt, keyHash, firstVersion, versionPlace, versionSeq, versionChecksum}
+use Rattle.agreement.specs.Keys.{keyHeaderSize, versionSize, addressOf, keyHeaderOf, versionCount, suffixPlace, anchorIndex, keyAt, keyHash, firstVersion, versionPlace, versionSeq, versionChecksum}
 use Rattle.agreement.specs.Agrees.{entryAt, SameVersion}
 use Rattle.admission.proofs.Stored.{StoredEntry}
 use Rattle.lookup.specs.Lookup.{pilotLen, pilotOffset, pilotOf, slotLen, slotOffset}
@@ -34,11 +33,11 @@ pub record Indexed (s : List ℕ) (o : Opened) («data» : List ℕ) (es : List 
   pub address-names : (k m : ℕ) → k < o .count → m < o .count → addressOf s o k ≡ addressOf s o m → k ≡ m
   pub key-names : (k m : ℕ) → k < o .count → m < o .count → keyAt s o k ≡ keyAt s o m → k ≡ m
   -- the parts of a key record lie in the section
-  pub header-inside : (k : ℕ) → k < o .count → o .arena + addressOf s o k + keyHeaderLenOf (o .encoding) ≤ length s
+  pub header-inside : (k : ℕ) → k < o .count → o .arena + addressOf s o k + keyHeaderSize (o .encoding) ≤ length s
   pub anchor-place : (k : ℕ) → k < o .count → o .arena + keyHeaderOf s o k .anchor ≡ suffixPlace s o (anchorIndex k)
   pub shared-inside : (k : ℕ) → k < o .count → suffixPlace s o (anchorIndex k) + keyHeaderOf s o k .shared ≤ length s
   pub suffix-inside : (k : ℕ) → k < o .count → suffixPlace s o k + keyHeaderOf s o k .«suffix_len» ≤ length s
-  pub version-inside : (k j : ℕ) → k < o .count → j < versionCount s o k → versionPlace s o k j + versionLenOf (o .encoding) ≤ length s
+  pub version-inside : (k j : ℕ) → k < o .count → j < versionCount s o k → versionPlace s o k j + versionSize (o .encoding) ≤ length s
   -- the versions of the keys are the records of the blocks, and their sequences fall
   pub versions : (k j : ℕ) → k < o .count → j < versionCount s o k → SameVersion s o k j (entryAt es (firstVersion s o k + j))
   pub version-listed : (k j : ℕ) → k < o .count → j < versionCount s o k → firstVersion s o k + j < length es

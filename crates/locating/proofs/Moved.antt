@@ -12,13 +12,11 @@ use Rattle.num.specs.Number.{leAt}
 use Rattle.num.proofs.Choice.{if-true}
 use Rattle.sstable.specs.declared.Kind.the-variants.{Put, Tombstone}
 use Rattle.block.specs.Walk.{Entry}
-use Rattle.encoding.specs.Encoding.{keyHeaderLenOf, versionLenOf}
 use Rattle.header.specs.declared.Opened.{Opened}
 use Rattle.header.specs.Header.{packedRecord}
 use Rattle.arena.specs.declared.KeyHeader.{KeyHeader}
-use Rattle.arena.specs.Key.{keyHeaderAt}
 use Rattle.num.proofs.Pieces.{leAt-parts}
-use Rattle.agreement.specs.Keys.{keyRecordsEnd, keyRecordLen, addressOf, keyHeaderOf, versionCount, suffixPlace, anchorIndex, keyAt, firstVersion, versionPlace, versionSeq, topBit, markedLength, versionKind, versionLength, versionOffset, versionChecksum}
+use Rattle.agreement.specs.Keys.{keyHeaderSize, versionSize, keyHeaderIn, keyRecordsEnd, keyRecordLen, addressOf, keyHeaderOf, versionCount, suffixPlace, anchorIndex, keyAt, firstVersion, versionPlace, versionSeq, topBit, markedLength, versionKind, versionLength, versionOffset, versionChecksum}
 use Rattle.agreement.specs.Agrees.{Agrees}
 use Rattle.agreement.proofs.Indices.{anchor-le}
 use Rattle.agreement.proofs.Laws.{shared-inside, version-inside}
@@ -42,9 +40,9 @@ module _ {s : List ℕ} {o : Opened} {w : List ℕ} (kept : ArenaKept s o w) whe
   number-same x y n e l b = leAt-parts w s x y n (part-same x y n e l b)
 
   -- and key headers
-  header-same : (x y : ℕ) → x + o .arena ≡ y + packedRecord o .arena → o .arena ≤ y → y + keyHeaderLenOf (o .encoding) ≤ keyRecordsEnd s o
-      → keyHeaderAt w (o .encoding) x ≡ keyHeaderAt s (o .encoding) y
-  unfolding keyHeaderAt keyHeaderLenOf
+  header-same : (x y : ℕ) → x + o .arena ≡ y + packedRecord o .arena → o .arena ≤ y → y + keyHeaderSize (o .encoding) ≤ keyRecordsEnd s o
+      → keyHeaderIn w (o .encoding) x ≡ keyHeaderIn s (o .encoding) y
+  unfolding keyHeaderIn keyHeaderSize
   header-same x y e l b =
       let address = o .encoding .address in
       let key = o .encoding .key in
@@ -56,20 +54,20 @@ module _ {s : List ℕ} {o : Opened} {w : List ℕ} (kept : ArenaKept s o w) whe
       }
 
   -- and versions
-  module _ (x y : ℕ) (e : x + o .arena ≡ y + packedRecord o .arena) (l : o .arena ≤ y) (b : y + versionLenOf (o .encoding) ≤ keyRecordsEnd s o) where
+  module _ (x y : ℕ) (e : x + o .arena ≡ y + packedRecord o .arena) (l : o .arena ≤ y) (b : y + versionSize (o .encoding) ≤ keyRecordsEnd s o) where
     -- the sequence
     seq-number : leAt w x (o .encoding .seq) ≡ leAt s y (o .encoding .seq)
-    unfolding versionLenOf
+    unfolding versionSize
     seq-number = number-same x y (o .encoding .seq) e l (omega arith)
 
     -- the value length, with its top bit
     length-number : leAt w (x + o .encoding .seq) (o .encoding .value) ≡ leAt s (y + o .encoding .seq) (o .encoding .value)
-    unfolding versionLenOf
+    unfolding versionSize
     length-number = number-same (x + o .encoding .seq) (y + o .encoding .seq) (o .encoding .value) (omega arith) (omega arith) (omega arith)
 
     -- the value offset
     offset-number : leAt w (x + o .encoding .seq + o .encoding .value) (o .encoding .address) ≡ leAt s (y + o .encoding .seq + o .encoding .value) (o .encoding .address)
-    unfolding versionLenOf
+    unfolding versionSize
     offset-number =
         number-same (x + o .encoding .seq + o .encoding .value) (y + o .encoding .seq + o .encoding .value) (o .encoding .address)
         (omega arith) (omega arith) (omega arith)
@@ -77,7 +75,7 @@ module _ {s : List ℕ} {o : Opened} {w : List ℕ} (kept : ArenaKept s o w) whe
     -- the checksum, in an encoding with checksums
     checksum-number : o .encoding .checksum ≡ true
         → leAt w (x + o .encoding .seq + o .encoding .value + o .encoding .address) 4 ≡ leAt s (y + o .encoding .seq + o .encoding .value + o .encoding .address) 4
-    unfolding versionLenOf
+    unfolding versionSize
     checksum-number c =
         let f = if-true {A = ℕ} (o .encoding .checksum) 4 0 c in
         number-same (x + o .encoding .seq + o .encoding .value + o .encoding .address) (y + o .encoding .seq + o .encoding .value + o .encoding .address) 4
@@ -88,7 +86,7 @@ module _ {s : List ℕ} {o : Opened} {w : List ℕ} (kept : ArenaKept s o w) whe
   module _ {«data» : List ℕ} {scratch : ℕ} {es : List Entry} (a : Agrees s «data» scratch o es) where
     -- the key header at an address
     record-same : (k : ℕ) → k < o .count
-        → keyHeaderAt w (o .encoding) (packedRecord o .arena + addressOf s o k) ≡ keyHeaderAt s (o .encoding) (o .arena + addressOf s o k)
+        → keyHeaderIn w (o .encoding) (packedRecord o .arena + addressOf s o k) ≡ keyHeaderIn s (o .encoding) (o .arena + addressOf s o k)
     record-same k l =
         header-same (packedRecord o .arena + addressOf s o k) (o .arena + addressOf s o k) (omega arith) (omega arith) (a .keys k l .header-inside)
 
@@ -97,14 +95,14 @@ module _ {s : List ℕ} {o : Opened} {w : List ℕ} (kept : ArenaKept s o w) whe
     unfolding addressOf packedRecord
     address-same zero l = refl
     address-same (suc k) l =
-        ap (λ (n : ℕ). n + keyRecordLen (o .encoding) (keyHeaderAt w (o .encoding) (packedRecord o .arena + n))) (address-same k (omega arith))
+        ap (λ (n : ℕ). n + keyRecordLen (o .encoding) (keyHeaderIn w (o .encoding) (packedRecord o .arena + n))) (address-same k (omega arith))
         ∙ ap (λ (h : KeyHeader). addressOf s o k + keyRecordLen (o .encoding) h) (record-same k l)
 
     -- the key headers
     pub key-header-same : (k : ℕ) → k < o .count → keyHeaderOf w (packedRecord o) k ≡ keyHeaderOf s o k
     unfolding keyHeaderOf packedRecord
     key-header-same k l =
-        ap (λ (n : ℕ). keyHeaderAt w (o .encoding) (packedRecord o .arena + n)) (address-same k (omega arith))
+        ap (λ (n : ℕ). keyHeaderIn w (o .encoding) (packedRecord o .arena + n)) (address-same k (omega arith))
         ∙ record-same k l
 
     -- the numbers of versions

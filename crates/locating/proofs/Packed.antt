@@ -16,7 +16,7 @@ use Rattle.crc32.specs.V42.{crcOf}
 use Rattle.block.specs.Walk.{Entry}
 use Rattle.point.specs.Hash.{hashOf, bucketOf, isDirect, directSlot, slotOf}
 use Rattle.point.proofs.Slots.{bucket-lt, slot-direct, slot-lt}
-use Rattle.encoding.specs.Encoding.{headerLen, keyHeaderLenOf, versionLenOf}
+use Rattle.encoding.specs.Encoding.{headerLen}
 use Rattle.header.specs.declared.Opened.{Opened}
 use Rattle.header.specs.Header.{fitsPacked, packedRecord}
 use Rattle.header.specs.Facts.{Header, fromPlain}
@@ -28,13 +28,15 @@ use Rattle.packed.specs.Packed.{pilotAt as plainPilot}
 use Rattle.packed.specs.Packed.{packPilot, packedBytes}
 use Rattle.packed.proofs.Lengths.{length-packed}
 use Rattle.packed.proofs.Bytes.{packed-end, packed-is-record, packed-pilot, packed-address, packed-part}
-use Rattle.agreement.specs.Keys.{keyRecordsEnd, addressOf, keyHeaderOf, versionCount, suffixPlace, anchorIndex, keyAt, keyHash, firstVersion, versionPlace, versionSeq, versionChecksum}
+use Rattle.agreement.specs.Keys.{keyHeaderSize, versionSize, keyRecordsEnd, addressOf, keyHeaderOf, versionCount, suffixPlace, anchorIndex, keyAt, keyHash, firstVersion, versionPlace, versionSeq, versionChecksum}
 use Rattle.agreement.specs.Agrees.{entryAt, SameVersion, Agrees}
 use Rattle.agreement.proofs.Same.{end-is, slot-is}
 use Rattle.agreement.proofs.Laws as laws
 use Rattle.agreement.proofs.Indices.{anchor-le}
 use Rattle.admission.specs.Blocks.{storeEntries}
 use Rattle.admission.specs.Admits.{PilotsInside, PilotsPack, Admits}
+use Rattle.admission.proofs.Opening.{named-slot}
+use Rattle.admission.proofs.PackedOpening.{pilot-packs}
 use Rattle.admission.proofs.Stored.{stored-entry}
 use Rattle.lookup.specs.Lookup.{unpacked, pilotLen, pilotOffset, pilotOf, slotLen, slotOffset}
 use Rattle.locating.proofs.Indexed.{Indexed}
@@ -89,8 +91,8 @@ module _ (s : List ℕ) (o : Opened) (h : Header s o) where
     slot-same hash =
         let k = bucketOf hash (o .buckets) in
         let l = bucket-below hash in
-        ap (λ (n : ℕ). slotOf hash (unpacked n) (o .count)) (packed-pilot s o h k l (pack .below k l))
-        ∙ unpacked-slot hash (leAt s (headerLen + 4 * k) 4) (o .count) (pack .below k l)
+        ap (λ (n : ℕ). slotOf hash (unpacked n) (o .count)) (packed-pilot s o h k l (pilot-packs s o pack k l))
+        ∙ unpacked-slot hash (leAt s (headerLen + 4 * k) 4) (o .count) (pilot-packs s o pack k l)
 
     -- so it is one of n
     slot-below : (hash : ℕ) → slotOf hash (pilotOf (packedBytes s o) (packedRecord o) hash) (o .count) < o .count
@@ -98,7 +100,7 @@ module _ (s : List ℕ) (o : Opened) (h : Header s o) where
     slot-below hash =
         let n = h .dimensions .some in
         subst⁻¹ (λ (k : ℕ). k < o .count) (slot-same hash)
-        (slot-lt hash (leAt s (pilotPlace o hash) 4) (o .count) (omega arith) (direct .direct (bucketOf hash (o .buckets)) (bucket-below hash)))
+        (slot-lt hash (leAt s (pilotPlace o hash) 4) (o .count) (omega arith) (named-slot s o direct (bucketOf hash (o .buckets)) (bucket-below hash)))
 
     -- it lies in the packed bytes
     slot-inside : (hash : ℕ) → slotOffset (packedBytes s o) (packedRecord o) hash + slotLen (packedRecord o) ≤ length (packedBytes s o)
@@ -208,10 +210,10 @@ module _ {s «data» : List ℕ} {scratch : ℕ} {o : Opened} {w : List ℕ} (ke
   -- where all of the arena lies in w
   module _ (inside : (x y n : ℕ) → x + o .arena ≡ y + packedRecord o .arena → y + n ≤ keyRecordsEnd s o → x + n ≤ length w) where
     -- so do the key headers
-    header-inside : (k : ℕ) → k < o .count → packedRecord o .arena + addressOf w (packedRecord o) k + keyHeaderLenOf (o .encoding) ≤ length w
+    header-inside : (k : ℕ) → k < o .count → packedRecord o .arena + addressOf w (packedRecord o) k + keyHeaderSize (o .encoding) ≤ length w
     header-inside k l =
         let e = address-same kept a k (omega arith) in
-        inside (packedRecord o .arena + addressOf w (packedRecord o) k) (o .arena + addressOf s o k) (keyHeaderLenOf (o .encoding)) (omega arith)
+        inside (packedRecord o .arena + addressOf w (packedRecord o) k) (o .arena + addressOf s o k) (keyHeaderSize (o .encoding)) (omega arith)
         (a .keys k l .header-inside)
 
     -- what keys share with their anchors
@@ -229,9 +231,9 @@ module _ {s «data» : List ℕ} {scratch : ℕ} {o : Opened} {w : List ℕ} (ke
 
     -- and their versions
     version-inside : (k j : ℕ) → k < o .count → j < versionCount w (packedRecord o) k
-        → versionPlace w (packedRecord o) k j + versionLenOf (o .encoding) ≤ length w
+        → versionPlace w (packedRecord o) k j + versionSize (o .encoding) ≤ length w
     version-inside k j l b =
-        inside _ _ (versionLenOf (o .encoding)) (version-moved kept a k j l) (laws.version-inside a k j l (version-below k j l b))
+        inside _ _ (versionSize (o .encoding)) (version-moved kept a k j l) (laws.version-inside a k j l (version-below k j l b))
 
 -- the packed bytes keep the arena
 arena-kept : (s : List ℕ) (o : Opened) → Header s o → ArenaKept s o (packedBytes s o)

@@ -13,7 +13,6 @@ use Rattle.point.proofs.Slots.{bucket-lt, slot-lt}
 use Rattle.encoding.specs.Encoding.{headerLen}
 use Rattle.header.specs.declared.Opened.{Opened}
 use Rattle.header.specs.Facts.{Header, fromPlain}
-use Rattle.header.proofs.Headers.{header-plain}
 use Rattle.opened.proofs.Records.{facts-record}
 use Rattle.header.proofs.Bounds.{buckets-range, pilot-inside, slot-inside, arena-end}
 use Rattle.arena.specs.Key.{pilotPlace, slotPlace}
@@ -23,6 +22,7 @@ use Rattle.agreement.proofs.Same.{end-is, slot-is}
 use Rattle.agreement.proofs.Laws.{address-names, key-names, sequences-fall, anchor-place, shared-inside, version-inside, version-listed, record-version, index-member}
 use Rattle.admission.specs.Blocks.{storeEntries}
 use Rattle.admission.specs.Admits.{PilotsInside, Admits}
+use Rattle.admission.proofs.Opening.{named-slot}
 use Rattle.admission.proofs.Stored.{stored-entry}
 use Rattle.lookup.specs.Lookup.{pilotLen, pilotOffset, pilotOf, slotLen, slotOffset}
 use Rattle.locating.proofs.Indexed.{Indexed}
@@ -61,8 +61,8 @@ module _ (s : List ℕ) (o : Opened) (h : Header s o) where
   pilot-fits : (x : ℕ) → pilotOffset o x + pilotLen o ≤ length s
   unfolding pilotPlace
   pilot-fits x =
-      let e = pilot-place o (header-plain s o h) x in
-      let f = pilot-four o (header-plain s o h) in
+      let e = pilot-place o (h .plain) x in
+      let f = pilot-four o (h .plain) in
       let i = pilot-inside s o h (bucketOf x (o .buckets)) (bucket-below x) in
       let l = arena-inside in
       omega arith
@@ -71,24 +71,24 @@ module _ (s : List ℕ) (o : Opened) (h : Header s o) where
     -- its slot is one of n, as the opening and as the lookup find it
     slot-named : (x : ℕ) → slotOf x (leAt s (pilotPlace o x) 4) (o .count) < o .count
     unfolding pilotPlace
-    slot-named x = slot-lt x _ (o .count) (h .dimensions .some) (g .direct (bucketOf x (o .buckets)) (bucket-below x))
+    slot-named x = slot-lt x _ (o .count) (h .dimensions .some) (named-slot s o g (bucketOf x (o .buckets)) (bucket-below x))
 
     slot-found : (x : ℕ) → slotOf x (pilotOf s o x) (o .count) < o .count
-    slot-found x = rw (pilot-number o (header-plain s o h) s x) (slot-named x)
+    slot-found x = rw (pilot-number o (h .plain) s x) (slot-named x)
 
     -- and lies in the section
     slot-fits : (x : ℕ) → slotOffset s o x + slotLen o ≤ length s
     unfolding slotPlace
     slot-fits x =
-        let e = slot-place o (header-plain s o h) s x in
-        let f = slot-wide o (header-plain s o h) in
+        let e = slot-place o (h .plain) s x in
+        let f = slot-wide o (h .plain) in
         let i = slot-inside s o h _ (slot-named x) in
         let l = arena-inside in
         omega arith
 
 -- the slot of a key is where the lookup of its hash finds it
 key-slot : (s : List ℕ) (o : Opened) → Header s o → (k : ℕ) → slotOffset s o (keyHash s o k) ≡ keySlot s o k
-key-slot s o h k = slot-place o (header-plain s o h) s (keyHash s o k) ∙ sym (slot-is s o k)
+key-slot s o h k = slot-place o (h .plain) s (keyHash s o k) ∙ sym (slot-is s o k)
 
 -- ---- the store
 

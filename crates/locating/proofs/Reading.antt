@@ -16,7 +16,8 @@ use Rattle.point.specs.Hash.{hashOf, slotOf}
 use Rattle.encoding.specs.Encoding.{headerLen, keyHeaderLenOf}
 use Rattle.header.specs.declared.Opened.{Opened}
 use Rattle.arena.specs.declared.KeyHeader.{KeyHeader}
-use Rattle.agreement.specs.Keys.{addressOf, keyHeaderOf, versionCount, suffixPlace, keyAt, keyHash, versionPlace}
+use Rattle.arena.specs.Key.{keyHeaderAt}
+use Rattle.agreement.specs.Keys.{keyHeaderSize, keyHeaderIn, addressOf, keyHeaderOf, versionCount, suffixPlace, keyAt, keyHash, versionPlace}
 use Rattle.locator.specs.declared.Located.{Located}
 use Rattle.locator.specs.declared.Located.the-variants.{Missing, Refused}
 use Rattle.num.specs.Choice.{if_then_else_}
@@ -93,7 +94,7 @@ module _ (s : List ℕ) (o : Opened) («data» : List ℕ) (es : List Entry) (x 
   key-parts : (k : ℕ) → k < o .count → keyAt s o k
       ≡ take (keyHeaderOf s o k .shared) (drop (o .arena + keyHeaderOf s o k .anchor) s)
       ++ take (keyHeaderOf s o k .«suffix_len») (drop (o .arena + addressOf s o k + keyHeaderLenOf (o .encoding)) s)
-  unfolding keyAt suffixPlace
+  unfolding keyAt suffixPlace keyHeaderLenOf keyHeaderSize
   key-parts k h =
       ap (λ (p : ℕ). take (keyHeaderOf s o k .shared) (drop p s) ++ take (keyHeaderOf s o k .«suffix_len») (drop (suffixPlace s o k) s))
       (sym (x .anchor-place k h))
@@ -103,18 +104,18 @@ module _ (s : List ℕ) (o : Opened) («data» : List ℕ) (es : List Entry) (x 
   anchor-inside k h = omega (arith, x .anchor-place k h, x .shared-inside k h)
 
   suffix-inside : (k : ℕ) → k < o .count → o .arena + addressOf s o k + keyHeaderLenOf (o .encoding) + keyHeaderOf s o k .«suffix_len» ≤ length s
-  unfolding suffixPlace
+  unfolding suffixPlace keyHeaderLenOf keyHeaderSize
   suffix-inside k h = x .suffix-inside k h
 
   -- the first version stands behind the suffix
   first-place : (k : ℕ) → o .arena + addressOf s o k + keyHeaderLenOf (o .encoding) + keyHeaderOf s o k .«suffix_len» ≡ versionPlace s o k 0
-  unfolding versionPlace suffixPlace
+  unfolding versionPlace suffixPlace keyHeaderLenOf keyHeaderSize
   first-place k = omega arith
 
   -- in its record a key of the arena meets its own versions
   key-own : (k : ℕ) → k < o .count → (limit : ℕ)
       → keyRecordAt s o (keyAt s o k) limit (o .arena + addressOf s o k) ≡ versionsFrom (versionCount s o k) s o (versionPlace s o k 0) limit
-  unfolding keyRecordAt keyHeaderOf versionCount
+  unfolding keyRecordAt keyHeaderOf keyHeaderIn keyHeaderAt versionCount keyHeaderLenOf keyHeaderSize
   key-own k h limit =
       reads s _ _ _ (x .header-inside k h)
       ∙ record-own s o (keyAt s o k) limit (o .arena + addressOf s o k) (keyHeaderOf s o k) (anchor-inside k h) (suffix-inside k h) (key-parts k h)
@@ -122,7 +123,7 @@ module _ (s : List ℕ) (o : Opened) («data» : List ℕ) (es : List Entry) (x 
 
   -- and any other key nothing
   key-other : (k : ℕ) → k < o .count → (key : List ℕ) (limit : ℕ) → (key ≡ keyAt s o k → ⊥) → keyRecordAt s o key limit (o .arena + addressOf s o k) ≡ Missing
-  unfolding keyRecordAt keyHeaderOf
+  unfolding keyRecordAt keyHeaderOf keyHeaderIn keyHeaderAt keyHeaderLenOf keyHeaderSize
   key-other k h key limit n =
       reads s _ _ _ (x .header-inside k h)
       ∙ record-other s o key limit (o .arena + addressOf s o k) (keyHeaderOf s o k) (anchor-inside k h) (suffix-inside k h) (λ e. n (e ∙ sym (key-parts k h)))

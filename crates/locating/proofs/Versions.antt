@@ -16,9 +16,9 @@ use Rattle.encoding.specs.Encoding.{versionLenOf}
 use Rattle.header.specs.declared.Opened.{Opened}
 use Rattle.versions.specs.Version.{storedSeq}
 use Rattle.validate.specs.Walk.{valueOf}
-use Rattle.agreement.specs.Keys.{versionCount, keyAt, firstVersion, versionPlace, versionSeq}
+use Rattle.agreement.specs.Keys.{versionSize, versionCount, keyAt, firstVersion, versionPlace, versionSeq}
 use Rattle.agreement.specs.Agrees.{entryAt}
-use Rattle.agreement.proofs.Same.{seq-is, kind-is, length-is, offset-is, checksum-is}
+use Rattle.agreement.proofs.Same.{version-size-is, seq-is, kind-is, length-is, offset-is, checksum-is}
 use Rattle.agreement.proofs.Laws.{member-index, index-member}
 use Rattle.admission.specs.Blocks.{storeEntries}
 use Rattle.admission.proofs.Stored.{StoredEntry}
@@ -76,7 +76,7 @@ pub data Answered (s : List ℕ) (o : Opened) (k limit from : ℕ) (answer : Loc
 -- a version is followed by the next
 next-place : (s : List ℕ) (o : Opened) (k j : ℕ) → versionPlace s o k j + versionLenOf (o .encoding) ≡ versionPlace s o k (suc j)
 unfolding versionPlace
-next-place s o k j = omega arith
+next-place s o k j = omega (arith, version-size-is (o .encoding))
 
 -- behind a version above the limit the answer is that of the rest
 answered-behind : (s : List ℕ) (o : Opened) (k limit j : ℕ) (answer rest : Located) → limit < versionSeq s o k j → answer ≡ rest
@@ -95,7 +95,7 @@ answered-behind s o k limit j answer rest a e (first i w f) =
 module _ (s : List ℕ) (o : Opened) («data» : List ℕ) (es : List Entry) (x : Indexed s o «data» es) (k : ℕ) (h : k < o .count) (limit : ℕ) where
   -- the walk over the versions of key k from one on answers so
   pub answered : (count j : ℕ) → j + count ≡ versionCount s o k → Answered s o k limit j (versionsFrom count s o (versionPlace s o k j) limit)
-  unfolding versionsFrom versionSeq storedSeq
+  unfolding versionsFrom versionSeq storedSeq versionLenOf versionSize
   answered zero j n = none (λ m p q. absurd (omega arith)) refl
   answered (suc count) j n = go (leb (versionSeq s o k j) limit) refl (answered count (suc j) (omega arith))
     where

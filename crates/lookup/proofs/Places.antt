@@ -18,7 +18,6 @@ use Rattle.encoding.specs.Encoding.{Widths}
 use Rattle.encoding.proofs.Widths.{widths-le}
 use Rattle.header.specs.declared.Opened.{Opened}
 use Rattle.header.specs.Facts.{Header, PackedHeader, IsRecord, fromPlain, fromPacked}
-use Rattle.header.proofs.Headers.{header-plain, header-packed}
 use Rattle.header.proofs.Bounds.{product-le, buckets-range, pilot-inside, packed-pilot-inside, arena-end, record-dimensions}
 use Rattle.lookup.specs.Lookup.{unpacked, pilotLen, pilotOffset, pilotOf, slotLen, slotOffset, keyRecordAt, slotRead, hashRead}
 use Rattle.locator.specs.Locator.{readable}
@@ -108,12 +107,12 @@ module _ (s : List ℕ) (o : Opened) (key : List ℕ) (limit h at : ℕ) where
 -- ---- records
 
 pub packed-header : (s : List ℕ) (o : Opened) → IsRecord s o → o .packed ≡ true → PackedHeader s o
-packed-header s o (fromPlain h) e = false-true (sym (header-plain s o h) ∙ e)
+packed-header s o (fromPlain h) e = false-true (sym (h .plain) ∙ e)
 packed-header s o (fromPacked h) e = h
 
 pub plain-header : (s : List ℕ) (o : Opened) → IsRecord s o → o .packed ≡ false → Header s o
 plain-header s o (fromPlain h) e = h
-plain-header s o (fromPacked h) e = false-true (sym e ∙ header-packed s o h)
+plain-header s o (fromPacked h) e = false-true (sym e ∙ h .packed)
 
 module _ (s : List ℕ) (o : Opened) (r : IsRecord s o) where
   pub record-widths : Widths (o .encoding)

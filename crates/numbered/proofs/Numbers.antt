@@ -20,6 +20,7 @@ use Rattle.block.specs.declared.Verified.the-variants.{Sound, Unsound}
 use Rattle.block.specs.Verify.{verifiedNumber}
 use Rattle.block.specs.Record.{steppedNumber}
 use Rattle.block.specs.Walk.{Entry, WalkEnd, atEnd, stopped}
+use Rattle.point.specs.Hash.{hashOf}
 use Rattle.encoding.specs.Encoding.{versionLenOf}
 use Rattle.header.specs.declared.Opened.{Opened}
 use Rattle.header.specs.declared.HeaderRead.{HeaderRead}
@@ -39,6 +40,7 @@ use Rattle.locator.specs.declared.Located.the-variants as located
 use Rattle.locator.specs.Locator.{readable, locatedNumber, versionsFrom}
 use Rattle.lookup.specs.Lookup.{keyRecordOf, keyRecordAt, slotRead, hashRead, locateOf}
 use Rattle.lookup.specs.Value.{valueInside, valueNumber}
+use Rattle.numbers.specs.Numbers.{openedOf}
 use Rattle.kiban.specs.Written.{lookupOf}
 use Rattle.numbered.specs.Numbers.{OwnNumber, openNumbers, packNumbers, lookupNumbers, valueNumbers}
 use Rattle.numbered.specs.Numbers.{OpensNumbered, PacksNumbered, LooksNumbered, ValuesNumbered}
@@ -220,29 +222,55 @@ packs-numbered s «data» blocks scratch room =
 
 -- ---- the lookup
 
--- the answer is a version or none, or refused with one of the numbers
-abbrev Locates : Located → Type 0
-Locates (located.Found l) = Unit {0}
-Locates located.Missing = Unit {0}
-Locates (located.Refused n) = Own lookupNumbers n
+-- the answer is a version or none, or refused with one of these numbers
+abbrev Locates : List ℕ → Located → Type 0
+Locates own (located.Found l) = Unit {0}
+Locates own located.Missing = Unit {0}
+Locates own (located.Refused n) = Own own n
 
 -- question 25, of the versions
-versions-own : (count : ℕ) (s : List ℕ) (o : Opened) (pos limit : ℕ) → Locates (versionsFrom count s o pos limit)
+versions-own : (count : ℕ) (s : List ℕ) (o : Opened) (pos limit : ℕ) → Locates (25 ∷ []) (versionsFrom count s o pos limit)
 unfolding versionsFrom oneOf either
 versions-own zero s o pos limit = tt
 versions-own (suc count) s o pos limit =
-    chosen Locates (both (readable s pos (o .encoding .seq)) (ltb (storedSeq s o pos) (2 ^ 64))) _ _ refl
-    (chosen Locates (leb (storedSeq s o pos) limit) _ _ (versions-own count s o (pos + versionLenOf (o .encoding)) limit) (asked Locates _ _ _ refl tt))
+    chosen (Locates (25 ∷ [])) (both (readable s pos (o .encoding .seq)) (ltb (storedSeq s o pos) (2 ^ 64))) _ _ refl
+    (chosen (Locates (25 ∷ [])) (leb (storedSeq s o pos) limit) _ _ (versions-own count s o (pos + versionLenOf (o .encoding)) limit)
+    (asked (Locates (25 ∷ [])) _ _ _ refl tt))
+
+-- question 25, of all reads
+reads-own : (s : List ℕ) (o : Opened) (key : List ℕ) (limit h : ℕ) → Locates (25 ∷ []) (hashRead s o key limit h)
+unfolding hashRead slotRead keyRecordAt keyRecordOf oneOf either
+reads-own s o key limit h =
+    let P = Locates (25 ∷ []) in
+    asked P _ _ _ refl (asked P _ _ _ refl (asked P _ _ _ tt (asked P _ _ _ refl (asked P _ _ _ tt (asked P _ _ _ refl (asked P _ _ _ tt
+    (asked P _ _ _ refl (asked P _ _ _ tt (versions-own _ s _ _ limit)))))))))
+
+-- their number is never 24
+pub reads-not-24 : (s : List ℕ) (o : Opened) (key : List ℕ) (limit h : ℕ) → locatedNumber (hashRead s o key limit h) ≡ 24 → ⊥
+unfolding locatedNumber oneOf either
+reads-not-24 s o key limit h e = go (hashRead s o key limit h) (reads-own s o key limit h) e
+  where
+    go : (x : Located) → Locates (25 ∷ []) x → locatedNumber x ≡ 24 → ⊥
+    go (located.Found l) p e = absurd (omega arith)
+    go located.Missing p e = absurd (omega arith)
+    go (located.Refused n) p e = false-true (ap (oneOf (25 ∷ [])) (sym e) ∙ p)
+
+-- 25 is one of the numbers of a lookup
+also-asked : (x : Located) → Locates (25 ∷ []) x → Locates lookupNumbers x
+unfolding oneOf
+also-asked (located.Found l) p = tt
+also-asked located.Missing p = tt
+also-asked (located.Refused n) p = second-either (eqb n 24) (oneOf (25 ∷ []) n) (λ _. p)
 
 -- questions 24 and 25
-lookup-own : (s numbers key : List ℕ) (limit : ℕ) → Locates (lookupOf s numbers key limit)
-unfolding lookupOf locateOf hashRead slotRead keyRecordAt keyRecordOf oneOf either
+lookup-own : (s numbers key : List ℕ) (limit : ℕ) → Locates lookupNumbers (lookupOf s numbers key limit)
+unfolding lookupOf locateOf oneOf either
 lookup-own s numbers key limit =
-    asked Locates _ _ _ refl (asked Locates _ _ _ refl (asked Locates _ _ _ refl (asked Locates _ _ _ refl (asked Locates _ _ _ tt
-    (asked Locates _ _ _ refl (asked Locates _ _ _ tt (asked Locates _ _ _ refl (asked Locates _ _ _ tt
-    (asked Locates _ _ _ refl (asked Locates _ _ _ tt (versions-own _ s _ _ limit)))))))))))
+    let h = hashOf key (openedOf numbers .seed) in
+    asked (Locates lookupNumbers) _ _ _ refl (asked (Locates lookupNumbers) _ _ _ refl
+    (also-asked (hashRead s (openedOf numbers) key limit h) (reads-own s (openedOf numbers) key limit h)))
 
-located-numbered : (x : Located) → Locates x → Numbered lookupNumbers (locatedNumber x) ((x ≡ located.Missing) ⊎ ((l : ValueLocator) × (x ≡ located.Found l)))
+located-numbered : (x : Located) → Locates lookupNumbers x → Numbered lookupNumbers (locatedNumber x) ((x ≡ located.Missing) ⊎ ((l : ValueLocator) × (x ≡ located.Found l)))
 unfolding locatedNumber oneOf either
 located-numbered (located.Found l) p = done lookupNumbers (inr (l, refl))
 located-numbered located.Missing p = done lookupNumbers (inl refl)

@@ -1,6 +1,6 @@
 -- The record of packed bytes passes question 24: the header's numbers depend on its 64 bytes alone.
 -- Assumes nothing.
-use mathlib.Core.Path.{_≡_, sym, ap, _∙_}
+use mathlib.Core.Path.{_≡_, refl, sym, ap, _∙_}
 use mathlib.Core.Bool.{true, false}
 use mathlib.Core.List.{List}
 use Prim.Native.Nat.{ℕ, _+_, _-_, _<_, _≤_}
@@ -14,6 +14,7 @@ use Rattle.header.specs.declared.Opened.{Opened}
 use Rattle.header.specs.Header.{flagsOf, hasFlag, encodingAt, fieldsOf, withScan, fitsPacked, packedRecord}
 use Rattle.opened.specs.Opened.{isRecord}
 use Rattle.header.specs.Facts.{Header, fromPacked}
+use Rattle.header.proofs.Numbers.{numbers-moved, read-numbers, header-numbers}
 use Rattle.header.proofs.Bounds.{buckets-range}
 use Rattle.opened.proofs.Records.{facts-record}
 use Rattle.header.proofs.Questions.{packed-yes}
@@ -54,23 +55,26 @@ module _ (s t : List ℕ) (e : take headerLen s ≡ take headerLen t) where
 -- a section that begins with an accepted header's 64 bytes, and is long enough, has the packed record
 pub packed-passes : (s t : List ℕ) (o : Opened) → Header s o → fitsPacked o ≡ true → take headerLen s ≡ take headerLen t
     → packedRecord o .arena < length t - trailerLen → isRecord t (packedRecord o) ≡ true
-unfolding packedRecord withScan fieldsOf
+unfolding packedRecord withScan fieldsOf flagsOf
 packed-passes s t o h f e l =
     let d = h .dimensions in
     let b = buckets-range o d in
     let y = packed-yes o f in
-    let n = h .numbers ∙ fields-same s t e in
+    let n = read-numbers t o (header-numbers s o h ∙ fields-same s t e) in
     let g = flags-same s t e in
     facts-record t (packedRecord o) (fromPacked (record {
+      packed = refl;
       begins = record {
         long = omega arith;
         magic = sym (take-take 8 headerLen t (omega arith)) ∙ ap (take 8) (sym e) ∙ take-take 8 headerLen s (omega arith) ∙ h .begins .magic;
       };
-      numbers = ap packedRecord n;
+      numbers = numbers-moved t o _ _ _ n;
       dimensions = record { some = d .some; few = d .few; halved = d .halved; widths = d .widths };
       flags = omega (arith, h .flags);
-      plain-start = sym (same-number s t e 24 8 (omega arith)) ∙ ap (λ (r : Opened). r .arena) (sym (h .numbers)) ∙ h .start;
+      stored = sym (same-number s t e 24 8 (omega arith)) ∙ sym (h .stored) ∙ h .start;
+      start = refl;
       below = l;
+      unscanned = refl;
       checksums = y .0;
       few = y .1;
     }))

@@ -3,18 +3,18 @@
 use mathlib.Core.Path.{_≡_, refl, sym, ap, _∙_, subst}
 use mathlib.Core.Bool.{Bool, true, false}
 use mathlib.Core.List.{List}
-use Prim.Native.Nat.{ℕ, _^_, _<_}
+use Prim.Native.Nat.{ℕ, _+_, _*_, _^_, _<_}
 use Rattle.num.specs.Choice.{if_then_else_}
 use Rattle.num.specs.Number.{leAt}
 use Rattle.num.proofs.Choice.{both-true, true-both, false-true, if-true, if-false}
-use Rattle.encoding.specs.Encoding.{arenaStartOf}
 use Rattle.header.specs.declared.Opened.{Opened}
 use Rattle.header.specs.declared.HeaderRead.{HeaderRead}
 use Rattle.header.specs.declared.HeaderRead.the-variants.{Accepted, Refused}
 use Rattle.header.specs.Header.{flagsOf, fieldsOf, arenaBelow, headerOf, fitsPacked, packedRecord}
 use Rattle.header.specs.Facts.{Dimensions, PackedHeader, IsRecord, fromPlain, fromPacked}
-use Rattle.opened.specs.Opened.{plainFor, packedOf, isRecord}
-use Rattle.header.proofs.Headers.{below-yes, yes-below, header-facts, facts-header, header-plain, header-packed}
+use Rattle.opened.specs.Opened.{plainFor, packedOf, isRecord, RecordExactly}
+use Rattle.header.proofs.Headers.{below-yes, yes-below, header-facts, facts-header}
+use Rattle.header.proofs.Numbers.{fields-numbers, numbers-moved, packed-numbers}
 use Rattle.header.proofs.Questions.{begins-yes, yes-begins, dimensions-yes, yes-dimensions, packed-yes, yes-packed}
 use Rattle.opened.proofs.Same.{record-same, same-record}
 
@@ -28,7 +28,7 @@ unfolding plainFor
 yes-plain o r e = ap (λ (r : HeaderRead). plainFor r o) e ∙ same-record o o refl
 
 packed-facts : (s : List ℕ) (o : Opened) → packedOf s o ≡ true → PackedHeader s o
-unfolding packedOf packedRecord fieldsOf
+unfolding packedOf packedRecord fieldsOf flagsOf
 packed-facts s o t =
     let b = both-true _ _ t in
     let d = both-true _ _ (b .1) in
@@ -39,41 +39,47 @@ packed-facts s o t =
     let y = packed-yes (fieldsOf s) (p .0) in
     let e = record-same (packedRecord (fieldsOf s)) o (l .1) in
     subst (PackedHeader s) e (record {
+      packed = refl;
       begins = begins-yes s (b .0);
-      numbers = refl;
+      numbers = numbers-moved s (fieldsOf s) _ _ _ (fields-numbers s);
       dimensions = record { some = k .some; few = k .few; halved = k .halved; widths = k .widths };
       flags = q .1;
-      plain-start = q .2;
+      stored = q .2;
+      start = refl;
       below = below-yes s (packedRecord (fieldsOf s)) (l .0);
+      unscanned = refl;
       checksums = y .0;
       few = y .1;
     })
 
 module _ (s : List ℕ) (o : Opened) (h : PackedHeader s o) where
+  same : o ≡ packedRecord (fieldsOf s)
+  same = packed-numbers s o h
+
   fields : Dimensions (fieldsOf s)
   unfolding packedRecord
   fields =
-      let d = subst Dimensions (h .numbers) (h .dimensions) in
+      let d = subst Dimensions same (h .dimensions) in
       record { some = d .some; few = d .few; halved = d .halved; widths = d .widths }
 
-  start : fieldsOf s .arena ≡ arenaStartOf (fieldsOf s .count) (fieldsOf s .encoding .address)
+  start : fieldsOf s .arena ≡ 64 + 4 * fieldsOf s .buckets + fieldsOf s .count * (fieldsOf s .encoding .address + 2)
   unfolding packedRecord fieldsOf
-  start = subst (λ (r : Opened). leAt s 24 8 ≡ arenaStartOf (r .count) (r .encoding .address)) (h .numbers) (h .plain-start)
+  start = subst (λ (r : Opened). leAt s 24 8 ≡ 64 + 4 * r .buckets + r .count * (r .encoding .address + 2)) same (h .stored)
 
   fits : fitsPacked (fieldsOf s) ≡ true
   unfolding packedRecord
   fits =
-      subst (λ (r : Opened). r .encoding .checksum ≡ true → r .count < 2 ^ 23 → fitsPacked (fieldsOf s) ≡ true) (sym (h .numbers))
+      subst (λ (r : Opened). r .encoding .checksum ≡ true → r .count < 2 ^ 23 → fitsPacked (fieldsOf s) ≡ true) (sym same)
       (yes-packed (fieldsOf s)) (h .checksums) (h .few)
 
   facts-packed : packedOf s o ≡ true
-  unfolding packedOf
+  unfolding packedOf flagsOf
   facts-packed =
       true-both _ _ (yes-begins s (h .begins))
       (true-both _ _ (yes-dimensions (fieldsOf s) (flagsOf s) fields (h .flags) start)
       (true-both _ _ fits
-      (true-both _ _ (ap (arenaBelow s) (sym (h .numbers)) ∙ yes-below s o (h .below))
-      (same-record _ _ (sym (h .numbers))))))
+      (true-both _ _ (ap (arenaBelow s) (sym same) ∙ yes-below s o (h .below))
+      (same-record _ _ (sym same)))))
 
 -- a record of which question 24 is answered yes has the facts
 pub record-facts : (s : List ℕ) (o : Opened) → isRecord s o ≡ true → IsRecord s o
@@ -87,8 +93,12 @@ record-facts s o e = go (o .packed) e
 -- and a record with the facts is answered yes
 pub facts-record : (s : List ℕ) (o : Opened) → IsRecord s o → isRecord s o ≡ true
 unfolding isRecord
-facts-record s o (fromPlain h) = if-false _ _ _ (header-plain s o h) ∙ yes-plain o (headerOf s) (facts-header s o h)
-facts-record s o (fromPacked h) = if-true _ _ _ (header-packed s o h) ∙ facts-packed s o h
+facts-record s o (fromPlain h) = if-false _ _ _ (h .plain) ∙ yes-plain o (headerOf s) (facts-header s o h)
+facts-record s o (fromPacked h) = if-true _ _ _ (h .packed) ∙ facts-packed s o h
+
+pub record-exactly : RecordExactly
+unfolding RecordExactly
+record-exactly s o = (record-facts s o, facts-record s o)
 
 -- the record that a header gave passes question 24
 pub header-record : (s : List ℕ) (o : Opened) → headerOf s ≡ Accepted o → isRecord s o ≡ true

@@ -1,6 +1,8 @@
 -- Question 24: do these bytes give this record?
+use mathlib.Core.Path.{_≡_}
+use mathlib.Core.Logic.{_↔_}
 use mathlib.Core.List.{List}
-use mathlib.Core.Bool.{Bool, false, Bool·beq}
+use mathlib.Core.Bool.{Bool, true, false, Bool·beq}
 use Prim.Native.Nat.{ℕ}
 use lib.Dec.{eqb}
 use Rattle.num.specs.Choice.{if_then_else_, both}
@@ -9,6 +11,7 @@ use Rattle.header.specs.declared.Opened.{Opened}
 use Rattle.header.specs.declared.HeaderRead.{HeaderRead}
 use Rattle.header.specs.declared.HeaderRead.the-variants.{Accepted, Refused}
 use Rattle.header.specs.Header.{begins, flagsOf, fieldsOf, dimensions, arenaBelow, headerOf, fitsPacked, packedRecord}
+use Rattle.header.specs.Facts.{IsRecord}
 
 unfoldable pub sameEncoding : Encoding → Encoding → Bool
 sameEncoding a b =
@@ -52,6 +55,10 @@ packedOf s o =
 -- question 24: do these bytes give this record?
 unfoldable pub isRecord : List ℕ → Opened → Bool
 isRecord s o = if o .packed then packedOf s o else plainFor (headerOf s) o
+
+-- it is answered yes exactly if the section's header gives the record, in the plain terms of `IsRecord`
+unfoldable pub RecordExactly : Type 0
+RecordExactly = (s : List ℕ) (o : Opened) → (isRecord s o ≡ true) ↔ IsRecord s o
 
 -- for proofs alone: `unfolding opened-defs` opens the definitions of this file
 unfoldable pub opened-defs : ℕ

@@ -15,7 +15,7 @@ use Rattle.crc32.specs.Table.{isTable}
 use Rattle.sstable.specs.declared.Trailer.{Trailer}
 use Rattle.sstable.specs.declared.Trailer.the-variants.{Intact, UnknownType, ChecksumMismatch}
 use Rattle.sstable.specs.Trailer.{trailerOf}
-use Rattle.encoding.specs.Encoding.{scanHeaderLen}
+use Rattle.encoding.specs.Encoding.{scanHeaderLen, bucketsOf, arenaStartOf}
 use Rattle.header.specs.declared.Opened.{Opened}
 use Rattle.header.specs.declared.HeaderRead.the-variants.{Accepted, Refused}
 use Rattle.header.specs.Header.{headerOf, arenaEnd}
@@ -57,6 +57,7 @@ module _ (s : List ℕ) (o : Opened) (e : headerOf s ≡ Accepted o) where
   module _ (p : pilotsInside s o ≡ true) where
     -- a header that passed 3 to 6 with pilots that passed 10 can be read
     pub accepted-readable : Readable s o
+    unfolding bucketsOf arenaStartOf
     accepted-readable =
         let d = facts .dimensions in
         record {
@@ -64,7 +65,7 @@ module _ (s : List ℕ) (o : Opened) (e : headerOf s ≡ Accepted o) where
           some-key = d .some;
           most-keys = d .few;
           buckets = d .halved;
-          arena = facts .start;
+          arena = facts .start ∙ ap (λ (b : ℕ). 64 + 4 * b + o .count * (o .encoding .address + 2)) (d .halved);
           arena-inside = omega (arith, facts .below);
           scan-inside = scan-fits;
           pilots = λ k h. pilot-slot s o k (pilots-each s o p k h);

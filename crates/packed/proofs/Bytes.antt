@@ -66,6 +66,14 @@ module _ (s : List ℕ) (o : Opened) (h : Header s o) where
   unfolding packedRecord
   packed-end = sym (length-packed s o h)
 
+  -- the last five bytes
+  pub packed-last : drop (length (packedBytes s o) - trailerLen) (packedBytes s o) ≡ drop (length s - trailerLen) s
+  packed-last =
+      let e : length (packedBytes s o) - trailerLen ≡ packedRecord o .arena + (arenaEnd s o - o .arena) = omega (arith, packed-end) in
+      ap (λ (n : ℕ). drop n (packedBytes s o)) e
+      ∙ standing-behind (packedBytes s o) (arenaBytes s o) (drop (length s - trailerLen) s) (packedRecord o .arena) (arenaEnd s o - o .arena)
+      arena-stands (length-arena s o h)
+
   -- the header
   pub packed-header : take headerLen (packedBytes s o) ≡ take headerLen s
   unfolding packedBytes

@@ -12,7 +12,6 @@ use Rattle.block.specs.Verify.{verifyOf, verify-defs}
 use Rattle.block.specs.EntryHeader.{entry-header-defs}
 use Rattle.block.specs.Record.{record-at-defs}
 use Rattle.block.specs.Walk.{atEnd, stopped, noEntries, walkAt, recordsOf, block-walk-defs}
-use Rattle.validate.specs.Walk.{placed}
 use Rattle.admission.specs.Blocks.{storeEntries, block-defs}
 use Rattle.worked.specs.Worked.{workedData, workedList, workedEntries, worked-defs}
 
@@ -35,5 +34,5 @@ unfolding worked-defs block-walk-defs record-at-defs entry-header-defs choice-de
 stop = refl
 
 entries : storeEntries workedData workedList ≡ workedEntries
-unfolding worked-defs block-defs placed block-walk-defs record-at-defs entry-header-defs verify-defs choice-defs leAt kindOf
+unfolding worked-defs block-defs block-walk-defs record-at-defs entry-header-defs verify-defs choice-defs leAt kindOf
 entries = refl

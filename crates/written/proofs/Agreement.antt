@@ -20,7 +20,7 @@ use Rattle.header.specs.declared.Opened.{Opened}
 use Rattle.arena.specs.declared.KeyHeader.{KeyHeader}
 use Rattle.arena.specs.Key.{slotPlace}
 use Rattle.validate.specs.Walk.{valueOf}
-use Rattle.agreement.specs.Keys.{keyRecordsEnd, addressOf, keyHeaderOf, versionCount, suffixPlace, anchorIndex, keyHash, keySlot, firstVersion, prefixAt, prefixNew, prefixCount}
+use Rattle.agreement.specs.Keys.{keyRecordsEnd, keyHeaderSize, addressOf, keyHeaderOf, versionCount, suffixPlace, anchorIndex, keyHash, keySlot, firstVersion, prefixAt, prefixNew, prefixCount}
 use Rattle.agreement.specs.Agrees.{entryAt, KeyStands, SameVersion, Agrees}
 use Rattle.agreement.proofs.Indices.{anchor-self, anchor-le, address-next, address-le}
 use Rattle.agreement.proofs.Same.{slot-is}
@@ -50,7 +50,7 @@ module _ (s : List ℕ) (o : Opened) (gs : List KeyGroup) (fits : GroupsFit (o .
 
   -- question 16 of key i, in an arena that ends behind the last group
   key-stands : (end i : ℕ) → end ≡ o .arena + groupAddress (o .encoding) gs (length gs) → i < length gs → length (groupKey gs i) ≤ maxKeyBytes → KeyStands s o end i
-  unfolding suffixPlace anchorIndex groupAnchor limit-defs
+  unfolding suffixPlace anchorIndex groupAnchor limit-defs keyHeaderLenOf keyHeaderSize
   key-stands end i e h limit =
       let a = anchor-le i in
       let last : addressOf s o (length gs) ≡ groupAddress (o .encoding) gs (length gs) = addresses s o gs fits at (length gs) (omega arith) in

@@ -10,11 +10,10 @@ use borrow.Author.Tests.{eq-eqb}
 use Rattle.num.specs.Order.{commonPrefixLen}
 use Rattle.num.proofs.Choice.{if-case, if-true}
 use Rattle.num.proofs.Order.{commonPrefixLen-left, commonPrefixLen-right, commonPrefixLen-take}
-use Rattle.encoding.specs.Encoding.{group, keyHeaderLenOf}
+use Rattle.encoding.specs.Encoding.{group, keyHeaderLenOf, versionLenOf}
 use Rattle.header.specs.declared.Opened.{Opened}
 use Rattle.arena.specs.declared.KeyHeader.{KeyHeader}
-use Rattle.arena.specs.Key.{keyHeaderAt}
-use Rattle.agreement.specs.Keys.{keyRecordLen, addressOf, keyHeaderOf, versionCount, suffixPlace, anchorIndex, keyAt, firstVersion}
+use Rattle.agreement.specs.Keys.{keyHeaderSize, versionSize, keyHeaderIn, keyRecordLen, addressOf, keyHeaderOf, versionCount, suffixPlace, anchorIndex, keyAt, firstVersion}
 use Rattle.written.specs.Joined.{fieldsBytes}
 use Rattle.written.specs.Arena.{KeyGroup, groupKey, groupVersions, groupAnchor, groupShared, groupSuffix, groupAddress, groupHeader, keyHeaderFields, storedBytes, groupBytes, arenaWritten, GroupsFit}
 use Rattle.written.specs.Internal.{Stands, FieldsFit, versionsBefore}
@@ -76,7 +75,7 @@ module _ (s : List ℕ) (o : Opened) (gs : List KeyGroup) (fits : GroupsFit (o .
       let k = fits .keys i h in
       (fits .addresses (groupAnchor i) (omega arith), (omega arith, (omega arith, (fits .counts i h, tt))))
 
-  header-at : (i : ℕ) → i < length gs → keyHeaderAt s (o .encoding) (o .arena + groupAddress (o .encoding) gs i) ≡ groupHeader (o .encoding) gs i
+  header-at : (i : ℕ) → i < length gs → keyHeaderIn s (o .encoding) (o .arena + groupAddress (o .encoding) gs i) ≡ groupHeader (o .encoding) gs i
   unfolding groupBytes
   header-at i h =
       key-header-read (o .encoding) (groupHeader (o .encoding) gs i) (header-fits i h)
@@ -84,21 +83,21 @@ module _ (s : List ℕ) (o : Opened) (gs : List KeyGroup) (fits : GroupsFit (o .
 
   -- the reader's address of a key is the one that the writer counted
   pub addresses : (i : ℕ) → i ≤ length gs → addressOf s o i ≡ groupAddress (o .encoding) gs i
-  unfolding addressOf groupAddress keyRecordLen groupHeader
+  unfolding addressOf groupAddress keyRecordLen groupHeader keyHeaderLenOf keyHeaderSize versionLenOf versionSize
   addresses zero h = refl
   addresses (suc i) h =
-      ap (λ (a : ℕ). a + keyRecordLen (o .encoding) (keyHeaderAt s (o .encoding) (o .arena + a))) (addresses i (omega arith))
+      ap (λ (a : ℕ). a + keyRecordLen (o .encoding) (keyHeaderIn s (o .encoding) (o .arena + a))) (addresses i (omega arith))
       ∙ ap (λ (k : KeyHeader). groupAddress (o .encoding) gs i + keyRecordLen (o .encoding) k) (header-at i h)
 
   -- ---- key headers and keys
 
   pub headers : (i : ℕ) → i < length gs → keyHeaderOf s o i ≡ groupHeader (o .encoding) gs i
   unfolding keyHeaderOf
-  headers i h = ap (λ (a : ℕ). keyHeaderAt s (o .encoding) (o .arena + a)) (addresses i (omega arith)) ∙ header-at i h
+  headers i h = ap (λ (a : ℕ). keyHeaderIn s (o .encoding) (o .arena + a)) (addresses i (omega arith)) ∙ header-at i h
 
   -- suffix and versions stand behind the key header
   pub behind-header : (i : ℕ) → i < length gs → Stands s (suffixPlace s o i) (groupSuffix gs i ++ storedBytes (o .encoding) (o .«min_seq») (groupVersions gs i))
-  unfolding suffixPlace groupBytes
+  unfolding suffixPlace groupBytes keyHeaderLenOf keyHeaderSize
   behind-header i h =
       let p = addresses i (omega arith) in
       stands-at (omega arith)

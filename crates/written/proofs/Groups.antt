@@ -11,7 +11,7 @@ use Rattle.num.specs.Number.{leAt}
 use Rattle.encoding.specs.declared.Encoding.{Encoding}
 use Rattle.encoding.specs.Encoding.{keyHeaderLenOf, versionLenOf}
 use Rattle.arena.specs.declared.KeyHeader.{KeyHeader}
-use Rattle.arena.specs.Key.{keyHeaderAt}
+use Rattle.agreement.specs.Keys.{keyHeaderIn}
 use Rattle.written.specs.Joined.{fieldsBytes}
 use Rattle.written.specs.Arena.{StoredVersion, KeyGroup, noStored, groupVersions, groupSuffix, groupAddress, groupHeader, keyHeaderFields, checksumFields, storedFields, storedBytes, groupBytes, arenaWritten}
 use Rattle.written.specs.Internal.{Stands, fieldsLen, FieldsFit}
@@ -76,8 +76,8 @@ module _ (e : Encoding) (least : ℕ) where
     group-stands i h at = joined-stands (groupBytes e least gs) (groupAddress e gs) (length gs) i address-start (λ k _. address-step k) h at
 
 -- a key header is read as it was written
-pub key-header-read : {s : List ℕ} {pos : ℕ} (e : Encoding) (h : KeyHeader) → FieldsFit (keyHeaderFields e h) → Stands s pos (fieldsBytes (keyHeaderFields e h)) → keyHeaderAt s e pos ≡ h
-unfolding keyHeaderFields keyHeaderAt
+pub key-header-read : {s : List ℕ} {pos : ℕ} (e : Encoding) (h : KeyHeader) → FieldsFit (keyHeaderFields e h) → Stands s pos (fieldsBytes (keyHeaderFields e h)) → keyHeaderIn s e pos ≡ h
+unfolding keyHeaderFields keyHeaderIn
 key-header-read {s} {pos} e h f at =
     let r = fields-read (keyHeaderFields e h) f at in
     let last : pos + e .address + 2 * e .key ≡ pos + e .address + e .key + e .key = omega arith in

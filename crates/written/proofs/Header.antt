@@ -1,6 +1,6 @@
 -- The header and the scan part of a written section: questions 3 to 6, and where the arena ends.
 -- Assumes nothing.
-use mathlib.Core.Path.{_≡_, refl, sym, ap, _∙_, subst⁻¹}
+use mathlib.Core.Path.{_≡_, refl, sym, ap, _∙_, subst, subst⁻¹}
 use mathlib.Core.List.{List}
 use mathlib.Core.Bool.{Bool, true, false}
 use Prim.Native.Nat.{ℕ, zero, suc, _+_, _*_, _-_, _<_, _≤_, _^_}
@@ -11,13 +11,14 @@ use lib.ListN.{length, take}
 use borrow.Author.Tests.{ne-eqb}
 use Rattle.num.specs.Choice.{if_then_else_}
 use Rattle.num.specs.Number.{leAt}
-use Rattle.num.proofs.Choice.{false-true, if-case, if-false, oneOf-case}
+use Rattle.num.proofs.Choice.{if-case, if-false, oneOf-case}
 use Rattle.encoding.specs.declared.Encoding.{Encoding}
 use Rattle.encoding.specs.Encoding.{Widths, magic, scanMagic, scanHeaderLen, trailerLen, checksumFlag, scanFlag, bucketsOf, arenaStartOf, keyHeaderLenOf}
 use Rattle.encoding.proofs.Widths.{widths-le}
 use Rattle.header.specs.declared.Opened.{Opened}
-use Rattle.header.specs.Header.{flagsOf, hasFlag, encodingAt, fieldsOf, scanFlagged, scanPartLen, withScan}
+use Rattle.header.specs.Header.{flagsOf, hasFlag, encodingAt, fieldsOf, withScan}
 use Rattle.header.specs.Facts.{Scan, Header}
+use Rattle.header.proofs.Numbers.{read-numbers}
 use Rattle.agreement.specs.Keys.{keyRecordsEnd}
 use Rattle.written.specs.Joined.{fieldsBytes}
 use Rattle.written.specs.Arena.{KeyGroup, groupAddress}
@@ -32,11 +33,10 @@ use Rattle.written.proofs.Section.{section-length, head-at, start-le, f
 
 -- the flags of a section without and with a scan part, by whether it has checksums
 checksum-flag : (c : Bool) → (hasFlag checksumFlag (if c then checksumFlag else 0) ≡ c) × (hasFlag checksumFlag ((if c then checksumFlag else 0) + scanFlag) ≡ c)
-    × (hasFlag scanFlag (if c then checksumFlag else 0) ≡ false) × (hasFlag scanFlag ((if c then checksumFlag else 0) + scanFlag) ≡ true)
     × ((if c then checksumFlag else 0) ≤ 1)
 unfolding hasFlag if_then_else_
-checksum-flag true = (refl, refl, refl, refl, omega arith)
-checksum-flag false = (refl, refl, refl, refl, omega arith)
+checksum-flag true = (refl, refl, omega arith)
+checksum-flag false = (refl, refl, omega arith)
 
 flag-checksum : (e : Encoding) (prefix : ℕ) → hasFlag checksumFlag (flagsFor e prefix) ≡ e .checksum
 unfolding flagsFor
@@ -45,8 +45,8 @@ flag-checksum e (suc p) = checksum-flag (e .checksum) .1
 
 flags-le : (e : Encoding) (prefix : ℕ) → flagsFor e prefix ≤ checksumFlag + scanFlag
 unfolding flagsFor
-flags-le e zero = let h = checksum-flag (e .checksum) .4 in omega arith
-flags-le e (suc p) = let h = checksum-flag (e .checksum) .4 in omega arith
+flags-le e zero = let h = checksum-flag (e .checksum) .2 in omega arith
+flags-le e (suc p) = let h = checksum-flag (e .checksum) .2 in omega arith
 
 -- the first key's prefix is counted
 prefixes-some : (n : ℕ) (gs : List KeyGroup) (i : ℕ) → 1 ≤ i → 1 ≤ groupPrefixes n gs i
@@ -77,7 +77,7 @@ module _ (e : Encoding) (seed least : ℕ) (gs : List KeyGroup) (pilot owner : �
   -- questions 5 and 6
   scan-facts : (p : ℕ) → Writable e seed least gs pilot owner (suc p)
       → Scan (sectionBytes e seed least gs pilot owner (suc p)) (writtenRecord e seed least gs pilot owner (suc p))
-  unfolding scanPlaceFor scanFields scanLenFor writtenRecord scanPartLen fromScan scanMagic
+  unfolding scanPlaceFor scanFields scanLenFor writtenRecord fromScan scanMagic
   scan-facts p w =
       let s = sectionBytes e seed least gs pilot owner (suc p) in
       let place = arenaStartOf (length gs) (e .address) + groupAddress e gs (length gs) in
@@ -108,16 +108,16 @@ module _ (e : Encoding) (seed least : ℕ) (gs : List KeyGroup) (pilot owner : �
         prefixes-few = omega arith;
       }
 
-  scanned-case : (prefix : ℕ) → Writable e seed least gs pilot owner prefix → hasFlag scanFlag (flagsFor e prefix) ≡ true
+  scanned-case : (prefix : ℕ) → Writable e seed least gs pilot owner prefix → 2 ≤ flagsFor e prefix
       → Scan (sectionBytes e seed least gs pilot owner prefix) (writtenRecord e seed least gs pilot owner prefix)
   unfolding flagsFor
-  scanned-case zero w f = false-true (sym (checksum-flag (e .checksum) .2) ∙ f)
+  scanned-case zero w f = let h = checksum-flag (e .checksum) .2 in absurd (omega arith)
   scanned-case (suc p) w f = scan-facts p w
 
-  unscanned-case : (prefix : ℕ) → hasFlag scanFlag (flagsFor e prefix) ≡ false → scanPlaceFor e gs prefix ≡ 0
+  unscanned-case : (prefix : ℕ) → flagsFor e prefix < 2 → scanPlaceFor e gs prefix ≡ 0
   unfolding flagsFor scanPlaceFor
   unscanned-case zero f = refl
-  unscanned-case (suc p) f = false-true (sym f ∙ checksum-flag (e .checksum) .3)
+  unscanned-case (suc p) f = absurd (omega arith)
 
   -- the arena ends behind the last group
   pub end-read : (prefix : ℕ) → keyRecordsEnd (sectionBytes e seed least gs pilot owner prefix) (writtenRecord e seed least gs pilot owner prefix)
@@ -195,18 +195,20 @@ module _ (e : Encoding) (seed least : ℕ) (gs : List KeyGroup) (pilot owner : �
       })
 
   pub header-read : Header s o
-  unfolding scanFlagged writtenRecord
+  unfolding flagsOf writtenRecord bucketsOf arenaStartOf magic prologueFields
   header-read =
       let n = section-length e seed least gs pilot owner prefix in
       let l = start-le e seed least gs pilot owner prefix in
       let g = group-some e (w .fits .widths) gs (length gs) (w .some) in
       record {
+        plain = refl;
         begins = record { long = omega arith; magic = magic-read };
-        numbers = numbers-read;
+        numbers = read-numbers s o numbers-read;
         dimensions = record { some = w .some; few = w .few; halved = refl; widths = w .fits .widths };
-        flags = subst⁻¹ (λ (f : ℕ). f ≤ checksumFlag + scanFlag) flags-read (flags-le e prefix);
+        flags = subst⁻¹ (λ (f : ℕ). f ≤ 3) flags-read (flags-le e prefix);
+        stored = sym (prologue .1 .1 .1 .0);
         start = refl;
         below = omega arith;
-        scanned = λ f. scanned-case e seed least gs pilot owner prefix w (sym (ap (hasFlag scanFlag) flags-read) ∙ f);
-        unscanned = λ f. unscanned-case e seed least gs pilot owner prefix (sym (ap (hasFlag scanFlag) flags-read) ∙ f);
+        scanned = λ f. scanned-case e seed least gs pilot owner prefix w (subst (λ (n : ℕ). 2 ≤ n) flags-read f);
+        unscanned = λ f. unscanned-case e seed least gs pilot owner prefix (subst (λ (n : ℕ). n < 2) flags-read f);
       }

@@ -1,19 +1,21 @@
 -- A written section is admitted beside blocks that hold just its records, so it opens and packs (promise P4, from the key groups on).
 -- Assumes nothing.
-use mathlib.Core.Path.{refl, sym, ap, _∙_, subst⁻¹}
+use mathlib.Core.Path.{refl, subst, subst⁻¹}
 use mathlib.Core.List.{List}
-use Prim.Native.Nat.{ℕ, _<_, _^_}
+use Prim.Native.Nat.{ℕ, _%_, _<_, _≤_, _^_}
 use native.Mathlib.Omega.{arith}
 use lib.ListN.{length}
+use borrow.Author.Tests.{le-leb}
 use Rattle.point.specs.Hash.{isDirect, directSlot}
 use Rattle.encoding.specs.declared.Encoding.{Encoding}
 use Rattle.header.specs.declared.Opened.{Opened}
 use Rattle.header.specs.Header.{packedRecord}
 use Rattle.packed.specs.Packed.{packedBytes}
 use Rattle.agreement.specs.Agrees.{Agrees}
+use Rattle.admission.specs.Layout.{pilotNumber}
 use Rattle.admission.specs.Admits.{PilotsInside, Admits, OpensExactly, PacksExactly}
 use Rattle.admission.proofs.Opening.{open-exactly}
-use Rattle.admission.proofs.PackedOpening.{open-packed-exactly}
+use Rattle.admission.proofs.PackedOpening.{packed-size, open-packed-exactly}
 use Rattle.written.specs.Arena.{KeyGroup}
 use Rattle.written.specs.Section.{sectionBytes, writtenRecord}
 use Rattle.written.specs.Opens.{Writable, Packable, BesideGroups, OpensAs, PacksAs, WrittenOpens}
@@ -35,12 +37,12 @@ module _ (e : Encoding) (seed least : ℕ) (gs : List KeyGroup) (pilot owner : �
 
   -- question 10
   pilots-inside : PilotsInside s o
-  unfolding writtenRecord
+  unfolding writtenRecord pilotNumber isDirect directSlot
   pilots-inside =
       record {
         direct = λ k h d.
             let r = pilots-read s o gs pilot owner prefix (w .fits) parts (w .slots) k h in
-            subst⁻¹ (λ (v : ℕ). directSlot v < length gs) r (w .slots .direct k h (sym (ap isDirect r) ∙ d));
+            subst⁻¹ (λ (v : ℕ). v % 2 ^ 31 < length gs) r (w .slots .direct k h (le-leb (2 ^ 31) (pilot k) (subst (λ (v : ℕ). 2 ^ 31 ≤ v) r d)));
       }
 
   module _ («data» blocks : List ℕ) (scratch : ℕ) (b : BesideGroups «data» blocks scratch gs) where
@@ -64,7 +66,7 @@ module _ (e : Encoding) (seed least : ℕ) (gs : List KeyGroup) (pilot owner : �
     opens = open-exactly s «data» blocks scratch o .1 admitted
 
     packs : Packable e gs pilot → PacksAs s «data» blocks scratch o
-    unfolding PacksExactly PacksAs writtenRecord
+    unfolding PacksExactly PacksAs writtenRecord pilotNumber directSlot
     packs p room holds =
         open-packed-exactly s «data» blocks scratch room (packedRecord o) (packedBytes s o) .1
         (record {
@@ -74,9 +76,9 @@ module _ (e : Encoding) (seed least : ℕ) (gs : List KeyGroup) (pilot owner : �
             checksums = p .checksums;
             few = p .few;
             pilots = record {
-              below = λ k h. subst⁻¹ (λ (v : ℕ). directSlot v < 2 ^ 23) (pilots-read s o gs pilot owner prefix (w .fits) parts (w .slots) k h) (p .pilots k h);
+              below = λ k h. subst⁻¹ (λ (v : ℕ). v % 2 ^ 31 < 2 ^ 23) (pilots-read s o gs pilot owner prefix (w .fits) parts (w .slots) k h) (p .pilots k h);
             };
-            holds = holds;
+            holds = subst (λ (n : ℕ). n ≤ room) (packed-size s o (admitted .header)) holds;
           };
           same-record = refl;
           same-bytes = refl;

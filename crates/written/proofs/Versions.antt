@@ -19,6 +19,7 @@ use Rattle.encoding.specs.Encoding.{Widths, tombstoneOf}
 use Rattle.encoding.proofs.Widths.{tombstone-double}
 use Rattle.header.specs.declared.Opened.{Opened}
 use Rattle.arena.specs.declared.KeyHeader.{KeyHeader}
+use Rattle.agreement.proofs.Same.{version-size-is}
 use Rattle.agreement.specs.Keys.{keyHeaderOf, versionPlace, versionSeq, topBit, markedLength, versionKind, versionLength, versionOffset, versionChecksum}
 use Rattle.written.specs.Joined.{fieldsBytes}
 use Rattle.written.specs.Arena.{KeyGroup, groupVersions, groupVersion, groupSuffix, groupHeader, markedSize, checksumFields, storedFields, storedBytes, arenaWritten, VersionFits, GroupsFit}
@@ -65,6 +66,7 @@ module _ (s : List ℕ) (o : Opened) (gs : List KeyGroup) (fits : GroupsFit (o .
   unfolding versionPlace groupVersion groupHeader
   version-at =
       let p : keyHeaderOf s o i .«suffix_len» ≡ length (groupSuffix gs i) = ap (λ (k : KeyHeader). k .«suffix_len») (headers s o gs fits at i h) in
+      let n = ap (λ (w : ℕ). j * w) (version-size-is (o .encoding)) in
       stands-at (omega arith)
       (version-stands (o .encoding) (o .«min_seq») (groupVersions gs i) j l
       (stands-right (groupSuffix gs i) (storedBytes (o .encoding) (o .«min_seq») (groupVersions gs i)) (length (groupSuffix gs i)) refl (behind-header s o gs fits at i h)))

@@ -24,7 +24,7 @@ use Rattle.point.specs.Hash.{hash-defs}
 use Rattle.encoding.specs.declared.Totals.{Totals}
 use Rattle.encoding.specs.declared.Encoding.{Encoding}
 use Rattle.encoding.specs.Encoding.{encoding-defs, bucketsOf}
-use Rattle.validate.specs.Walk.{placed, valueOf}
+use Rattle.validate.specs.Walk.{valueOf}
 use Rattle.admission.specs.Admits.{OpensExactly}
 use Rattle.admission.specs.Blocks.{Covers, storeEntries, block-defs}
 use Rattle.admission.proofs.Opening.{open-exactly}
@@ -174,7 +174,7 @@ unfolding OpensExactly
 worked-covers = open-exactly workedSection workedData workedList 4 workedOpened .0 (opened .0) .covers
 
 worked-just : storeEntries workedData workedList ≡ entriesOfGroups workedGroups
-unfolding worked-defs arena-written-defs joined-defs opens-defs block-defs placed block-walk-defs record-at-defs entry-header-defs verify-defs choice-defs leAt kindOf
+unfolding worked-defs arena-written-defs joined-defs opens-defs block-defs block-walk-defs record-at-defs entry-header-defs verify-defs choice-defs leAt kindOf
 worked-just = refl
 
 pub worked-beside : BesideGroups workedData workedList 4 workedGroups
