@@ -20,7 +20,7 @@ use Rattle.sstable.specs.declared.KindRead.the-variants.{Known, Unknown}
 use Rattle.block.specs.declared.EntryHeader.{EntryHeader}
 use Rattle.block.specs.declared.EntryRead.{EntryRead}
 use Rattle.block.specs.declared.EntryRead.the-variants.{Read, Bad}
-use Rattle.block.specs.EntryHeader.{numbersAt, valueAllowed, entryHeaderFor, entryHeaderKind, entryHeaderOf, SoundEntry}
+use Rattle.block.specs.EntryHeader.{entryNumbers, valueAllowed, entryHeaderFor, entryHeaderKind, entryHeaderOf, SoundEntry}
 
 bad-entry : {A : Type 0} (h : EntryHeader) → Bad ≡ Read h → A
 bad-entry h e = absurd (let z : _≡_ {A = ℕ} 0 1 = cc in omega arith)
@@ -46,11 +46,11 @@ empty-allowed Tombstone n h = eq-eqb n 0 (h refl)
 
 module _ (s : List ℕ) (end pos : ℕ) (h : EntryHeader) where
   facts-of-kind : (q : KindRead) → leb (pos + 21) end ≡ true → kindOf (getD s pos 0) ≡ q → entryHeaderKind s end pos q ≡ Read h → SoundEntry s end pos h
-  unfolding entryHeaderKind entryHeaderFor numbersAt
+  unfolding entryHeaderKind entryHeaderFor entryNumbers
   facts-of-kind (Known k) l f e =
       let p₁ = passed _ _ h e in
       let p₂ = passed _ _ h (p₁ .1) in
-      let q : numbersAt s pos k ≡ h = cc in
+      let q : entryNumbers s pos k ≡ h = cc in
       subst (SoundEntry s end pos) q
       (record {
         header-inside = leb-true _ _ l;
@@ -71,9 +71,9 @@ module _ (s : List ℕ) (end pos : ℕ) (h : EntryHeader) where
       facts-of-kind (kindOf (getD s pos 0)) (p .0) refl (p .1)
 
   facts-entry : SoundEntry s end pos h → entryHeaderOf s end pos ≡ Read h
-  unfolding entryHeaderOf entryHeaderKind entryHeaderFor numbersAt
+  unfolding entryHeaderOf entryHeaderKind entryHeaderFor entryNumbers
   facts-entry f =
-      let q : numbersAt s pos (h .kind) ≡ h =
+      let q : entryNumbers s pos (h .kind) ≡ h =
       λ i. record { kind = h .kind; seq = f .seq i; shared = f .shared i; «non_shared» = f .«non_shared» i; «value_len» = f .«value_len» i } in
       goes-on _ _ _ (le-leb _ _ (f .header-inside))
       (ap (entryHeaderKind s end pos) (f .kind)

@@ -18,8 +18,8 @@ use Rattle.block.specs.declared.EntryRead.{EntryRead}
 use Rattle.block.specs.declared.EntryRead.the-variants.{Read, Bad}
 
 -- the numbers of the entry at a place
-unfoldable pub numbersAt : List ℕ → ℕ → Kind → EntryHeader
-numbersAt s pos k =
+unfoldable pub entryNumbers : List ℕ → ℕ → Kind → EntryHeader
+entryNumbers s pos k =
     record {
       kind = k;
       seq = leAt s (pos + 13) 8;
@@ -42,7 +42,7 @@ entryHeaderFor end pos h =
 
 -- is the kind known?
 unfoldable pub entryHeaderKind : List ℕ → ℕ → ℕ → KindRead → EntryRead
-entryHeaderKind s end pos (Known k) = entryHeaderFor end pos (numbersAt s pos k)
+entryHeaderKind s end pos (Known k) = entryHeaderFor end pos (entryNumbers s pos k)
 entryHeaderKind s end pos Unknown = Bad
 
 -- does the header lie before the end of the entries?
@@ -64,5 +64,5 @@ pub record SoundEntry (s : List ℕ) (end pos : ℕ) (h : EntryHeader) : Type 0 
 
 -- for proofs alone: `unfolding entry-header-defs` opens the definitions of this file
 unfoldable pub entry-header-defs : ℕ
-unfolding numbersAt valueAllowed entryHeaderFor entryHeaderKind entryHeaderOf if_then_else_
+unfolding entryNumbers valueAllowed entryHeaderFor entryHeaderKind entryHeaderOf if_then_else_
 entry-header-defs = 0

@@ -6,7 +6,7 @@ ghost use lib.ListN.{length, take, drop};
 ghost use lib.Seq.{sets};
 ghost use Rattle.crc32.specs.Table.{isTable};
 ghost use Rattle.block.specs.Verify.{restartAt, restartSound, restartsSound, restartsVerified, verifyOf};
-ghost use Rattle.block.specs.EntryHeader.{numbersAt, valueAllowed, entryHeaderFor, entryHeaderOf};
+ghost use Rattle.block.specs.EntryHeader.{entryNumbers, valueAllowed, entryHeaderFor, entryHeaderOf};
 ghost use Rattle.block.specs.Record.{recordAt};
 use sstable::Kind;
 use sstable::KindRead;
@@ -157,7 +157,7 @@ fn value_allowed(kind: Kind, value_len: usize) -> bool
 
 fn entry_numbers(data: &[u8], pos: usize, kind: Kind) -> EntryHeader
     requires { ⌜ pos + 21 ≤ length (now «data») ⌝ }
-    ensures { λ r. ⌜ r ≡ numbersAt (now («data» .entry)) pos kind ⌝ }
+    ensures { λ r. ⌜ r ≡ entryNumbers (now («data» .entry)) pos kind ⌝ }
 {
     EntryHeader {
         kind,

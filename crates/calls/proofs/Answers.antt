@@ -19,7 +19,7 @@ use Rattle.locator.specs.Locator.{locatedNumber}
 use Rattle.lookup.specs.Lookup.{locateOf}
 use Rattle.locating.specs.Store.{LinkerStore, Store, Version, Holds, storeVersions, Within}
 use Rattle.locating.specs.Looks.{lookup, NoneWithin, Greatest, Answers, Looks}
-use Rattle.linking.specs.Linkers.{SameVersions, LinkSame, none, same}
+use Rattle.linking.specs.Linkers.{SameVersions, LinkSame, noneAlike, foundAlike}
 use Rattle.numbers.specs.Numbers.{recordNumbers, openedOf, answerNumbers}
 use Rattle.numbers.proofs.RecordNumbers.{record-read, record-is}
 use Rattle.kiban.specs.Written.{lookupOf, answerWritten}
@@ -176,14 +176,14 @@ module _ (h i : Holding) (o p : Opened) (x : HoldsStore h o) (y : HoldsStore i p
   pub calls-alike : LinkSame (storeHeld h o) (storeHeld i p) key limit → (c : LookupCall h key limit) (d : LookupCall i key limit)
       → LinkedAlike h i key limit c d
   unfolding locatedNumber
-  calls-alike (none m n e f) c d =
+  calls-alike (noneAlike m n e f) c d =
       record {
         first = call-result h o x key limit c Missing e;
         second = call-result i p y key limit d Missing f;
         answers =
             bothNone (held-none h o key limit m) (held-none i p key limit n) (missing-after h o x key limit c e) (missing-after i p y key limit d f);
       }
-  calls-alike (same v l m g w e a f b s) c d =
+  calls-alike (foundAlike v l m g w e a f b s) c d =
       let q = found-version h o x key limit c l e v a in
       let r = found-version i p y key limit d m f v b in
       record {

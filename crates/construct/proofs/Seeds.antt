@@ -13,7 +13,7 @@ use borrow.Author.Tests.{not-true, not-false}
 use Rattle.num.specs.Answer.{Answer, given, refused}
 use Rattle.num.specs.Wrapping.{mulMod}
 use Rattle.num.proofs.Lists.{part-sets-same}
-use Rattle.point.specs.Hash.{step, mixOf, hashOf}
+use Rattle.point.specs.Hash.{hashStep, mixOf, hashOf}
 use Rattle.construction.specs.Construct.{Placement, Constructed, seedOf, hashesOf, orderOf, emptyPlacement, placeBuckets, placeSingles, singlesFor, placementOf, constructFrom, constructOf}
 use Rattle.construction.specs.Scratch.{placementIn}
 use Rattle.construction.specs.Internal.{Room, freeCount, singlesIn, servedAs, place-defs}
@@ -88,7 +88,7 @@ module _ (area h h₂ : List ℕ) (count seed : ℕ) (stored : h₂ ≡ sets h 0
 
 -- ---- the eight seeds
 
-pub seed-is : (k r m : ℕ) → r ≡ mixOf m → m ≡ mulMod step k → r ≡ seedOf k
+pub seed-is : (k r m : ℕ) → r ≡ mixOf m → m ≡ mulMod hashStep k → r ≡ seedOf k
 unfolding seedOf
 seed-is k r m e f = e ∙ ap mixOf f
 

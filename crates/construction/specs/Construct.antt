@@ -11,12 +11,12 @@ use Rattle.num.specs.Choice.{if_then_else_, ask_otherwise_then_, both, oneOf, e
 use Rattle.num.specs.Answer.{Answer, given, refused}
 use Rattle.num.specs.Wrapping.{mulMod}
 use Rattle.encoding.specs.Encoding.{bucketsOf}
-use Rattle.point.specs.Hash.{step, mixOf, hashOf, bucketOf, positionOf}
+use Rattle.point.specs.Hash.{hashStep, mixOf, hashOf, bucketOf, positionOf}
 use Rattle.classes.specs.Classes.{itemsOf}
 
 -- seed k of the eight: mix(STEP × k), k from 1 on
 unfoldable pub seedOf : ℕ → ℕ
-seedOf k = mixOf (mulMod step k)
+seedOf k = mixOf (mulMod hashStep k)
 
 -- the hashes of the keys under a seed
 unfoldable pub hashesOf : List (List ℕ) → ℕ → List ℕ

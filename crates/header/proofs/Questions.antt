@@ -16,7 +16,7 @@ use Rattle.num.proofs.Order.{equalBytes-true, equalBytes-same}
 use Rattle.encoding.specs.declared.Encoding.{Encoding}
 use Rattle.encoding.specs.Encoding.{Widths, magic, scanMagic, trailerLen, stride, maxScanPrefix, bucketsOf, arenaStartOf}
 use Rattle.header.specs.declared.Opened.{Opened}
-use Rattle.header.specs.Header.{standsAt, within, begins, allowedWidths, dimensions, scanPartLen, scanPlaceOf, scanPart, scanSettings, withScan, fitsPacked}
+use Rattle.header.specs.Header.{standsAt, between, begins, allowedWidths, dimensions, scanPartLen, scanPlaceOf, scanPart, scanSettings, withScan, fitsPacked}
 use Rattle.header.specs.Facts.{Begins, Dimensions, Scan}
 
 -- eight bytes stand at a place if the numbers of both are the same
@@ -92,12 +92,12 @@ yes-dimensions o flags d f a =
     (true-both _ _ (le-leb flags 3 f)
     (eq-eqb _ _ (a ∙ ap (λ (b : ℕ). 64 + 4 * b + o .count * (o .encoding .address + 2)) (d .halved)))))))
 
-within-yes : (least most n : ℕ) → within least most n ≡ true → (least ≤ n) × (n ≤ most)
-unfolding within
+within-yes : (least most n : ℕ) → between least most n ≡ true → (least ≤ n) × (n ≤ most)
+unfolding between
 within-yes least most n e = let b = both-true _ _ e in (leb-true least n (b .0), leb-true n most (b .1))
 
-yes-within : (least most n : ℕ) → least ≤ n → n ≤ most → within least most n ≡ true
-unfolding within
+yes-within : (least most n : ℕ) → least ≤ n → n ≤ most → between least most n ≡ true
+unfolding between
 yes-within least most n l h = true-both _ _ (le-leb least n l) (le-leb n most h)
 
 -- question 5, asked of the stored length and the place
@@ -118,16 +118,16 @@ module _ (s : List ℕ) (o : Opened) (stored place : ℕ) (p : stored ≡ leAt s
 -- question 6, asked of the prefix length, the stride and the prefix count
 module _ (s : List ℕ) (scan n prefix : ℕ) (p : prefix ≡ leAt s (scan + 8) 4) where
   pub settings-low : prefix < 1 → false ≡ scanSettings s scan n
-  unfolding scanSettings within
+  unfolding scanSettings between
   settings-low h = both-no _ _ (sym (both-no _ _ (lt-leb 1 (leAt s (scan + 8) 4) (omega arith))))
 
   pub settings-high : maxScanPrefix < prefix → false ≡ scanSettings s scan n
-  unfolding scanSettings within
+  unfolding scanSettings between
   settings-high h =
       both-no _ _ (sym (both-yes _ _ _ (le-leb 1 (leAt s (scan + 8) 4) (omega arith)) (sym (lt-leb (leAt s (scan + 8) 4) maxScanPrefix (omega arith)))))
 
   module _ (l : 1 ≤ prefix) (h : prefix ≤ maxScanPrefix) (found : ℕ) (q : found ≡ leAt s (scan + 12) 4) where
-    short : within 1 maxScanPrefix (leAt s (scan + 8) 4) ≡ true
+    short : between 1 maxScanPrefix (leAt s (scan + 8) 4) ≡ true
     short = yes-within 1 maxScanPrefix (leAt s (scan + 8) 4) (omega arith) (omega arith)
 
     pub settings-stride : (found ≡ stride → ⊥) → false ≡ scanSettings s scan n
@@ -136,12 +136,12 @@ module _ (s : List ℕ) (scan n prefix : ℕ) (p : prefix ≡ leAt s (scan + 8) 
 
     module _ (t : found ≡ stride) (prefixes : ℕ) (r : prefixes ≡ leAt s (scan + 16) 8) where
       pub settings-none : prefixes < 1 → false ≡ scanSettings s scan n
-      unfolding scanSettings within
+      unfolding scanSettings between
       settings-none d =
           both-yes _ _ _ short (both-yes _ _ _ (eq-eqb _ _ (sym q ∙ t)) (both-no _ _ (lt-leb 1 (leAt s (scan + 16) 8) (omega arith))))
 
       pub settings-most : 1 ≤ prefixes → leb prefixes n ≡ scanSettings s scan n
-      unfolding scanSettings within
+      unfolding scanSettings between
       settings-most d =
           both-yes _ _ _ short (both-yes _ _ _ (eq-eqb _ _ (sym q ∙ t)) (both-yes _ _ _ (le-leb 1 (leAt s (scan + 16) 8) (omega arith)) (ap (λ (k : ℕ). leb k n) r)))
 

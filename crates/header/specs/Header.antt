@@ -18,8 +18,8 @@ unfoldable pub standsAt : List ℕ → ℕ → List ℕ → Bool
 standsAt s place bytes = equalBytes (take (length bytes) (drop place s)) bytes
 
 -- is the number at least the first and at most the second?
-unfoldable pub within : ℕ → ℕ → ℕ → Bool
-within least most n = both (leb least n) (leb n most)
+unfoldable pub between : ℕ → ℕ → ℕ → Bool
+between least most n = both (leb least n) (leb n most)
 
 -- question 3: at least 69 bytes, beginning `KIBANPH3`?
 unfoldable pub begins : List ℕ → Bool
@@ -107,9 +107,9 @@ scanPart s o =
 -- question 6, of a scan part at a place and of n keys: is its prefix length 1 to 24, its stride 32, its prefix count 1 to n?
 unfoldable pub scanSettings : List ℕ → ℕ → ℕ → Bool
 scanSettings s scan n =
-    both (within 1 maxScanPrefix (leAt s (scan + 8) 4))
+    both (between 1 maxScanPrefix (leAt s (scan + 8) 4))
     (both (eqb (leAt s (scan + 12) 4) stride)
-    (within 1 n (leAt s (scan + 16) 8)))
+    (between 1 n (leAt s (scan + 16) 8)))
 
 -- a record with another scan place
 unfoldable pub withScan : Opened → ℕ → Opened
@@ -168,5 +168,5 @@ arenaEnd s o = if eqb (o .scan) 0 then length s - trailerLen else o .scan
 
 -- for proofs alone: `unfolding header-defs` opens the definitions of this file
 unfoldable pub header-defs : ℕ
-unfolding standsAt within begins flagsOf hasFlag encodingAt fieldsOf allowedWidths dimensions arenaBelow scanFlagged scanPartLen scanPlaceOf scanPart scanSettings withScan scannedOf headerOf headerNumber fitsPacked packedRecord arenaEnd
+unfolding standsAt between begins flagsOf hasFlag encodingAt fieldsOf allowedWidths dimensions arenaBelow scanFlagged scanPartLen scanPlaceOf scanPart scanSettings withScan scannedOf headerOf headerNumber fitsPacked packedRecord arenaEnd
 header-defs = 0

@@ -9,7 +9,7 @@ use Rattle.locator.specs.declared.Located.the-variants.{Found, Missing, Refused
 use Rattle.locating.specs.Store.{LinkerStore, Version, Within}
 use Rattle.locating.specs.Looks.{lookup, NoneWithin, Greatest, Answers, Looks, LooksExactly}
 use Rattle.locating.proofs.Accepted.{lookup-exactly}
-use Rattle.linking.specs.Linkers.{SameVersions, Alike, LinkSame, none, same, TwoLinkers}
+use Rattle.linking.specs.Linkers.{SameVersions, Alike, LinkSame, noneAlike, foundAlike, TwoLinkers}
 
 -- answers that are one version
 answers-alike : (a b : LinkerStore) (v : Version) (l m : ValueLocator) → Answers a v l → Answers b v m → Alike a b l m
@@ -45,12 +45,12 @@ looks-same : (a b : LinkerStore) (key : List ℕ) (limit : ℕ) → Looks a key 
 looks-same a b key limit p q s = go (lookup a key limit) refl
   where
     go : (r : Located) → lookup a key limit ≡ r → LinkSame a b key limit
-    go Missing e = let n = p .none .0 e in let k = none-there a b key limit s n in none n k e (q .none .1 k)
+    go Missing e = let n = p .none .0 e in let k = none-there a b key limit s n in noneAlike n k e (q .none .1 k)
     go (Found l) e =
         let x = p .found l e in
         let g = greatest-there a b key limit s (x .0) (x .1) in
         let y = q .finds (x .0) g in
-        same (x .0) l (y .0) (x .1) g e (x .2) (y .1) (y .2) (answers-alike a b (x .0) l (y .0) (x .2) (y .2))
+        foundAlike (x .0) l (y .0) (x .1) g e (x .2) (y .1) (y .2) (answers-alike a b (x .0) l (y .0) (x .2) (y .2))
     go (Refused n) e = absurd (p .never n e)
 
 -- any two linkers, plain or packed, whose stores hold the same versions of a key within a limit link the same thing (P5)

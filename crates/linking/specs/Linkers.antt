@@ -25,8 +25,8 @@ pub record Alike (a b : LinkerStore) (l m : ValueLocator) : Type 0 where
 -- both linkers find none, where neither store holds a version of the key within the limit, or both find the one of greatest sequence,
 -- and their answers are alike
 pub data LinkSame (a b : LinkerStore) (key : List ℕ) (limit : ℕ) : Type 0 where
-  none : NoneWithin a key limit → NoneWithin b key limit → lookup a key limit ≡ Missing → lookup b key limit ≡ Missing → LinkSame a b key limit
-  same : (v : Version) (l m : ValueLocator) → Greatest a key limit v → Greatest b key limit v
+  noneAlike : NoneWithin a key limit → NoneWithin b key limit → lookup a key limit ≡ Missing → lookup b key limit ≡ Missing → LinkSame a b key limit
+  foundAlike : (v : Version) (l m : ValueLocator) → Greatest a key limit v → Greatest b key limit v
       → lookup a key limit ≡ Found l → Answers a v l → lookup b key limit ≡ Found m → Answers b v m
       → Alike a b l m → LinkSame a b key limit
 

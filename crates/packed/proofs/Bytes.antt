@@ -19,7 +19,7 @@ use Rattle.opened.specs.Opened.{isRecord}
 use Rattle.header.specs.Facts.{Header, fromPlain}
 use Rattle.header.proofs.Bounds.{arena-end}
 use Rattle.opened.proofs.Packed.{packed-passes}
-use Rattle.packed.specs.Packed.{pilotAt, packPilot, pilotsFrom, slotAddress, addressesFrom, arenaBytes, packedBytes}
+use Rattle.packed.specs.Packed.{pilotAt, packPilot, packedPilots, slotAddress, packedAddresses, arenaBytes, packedBytes}
 use Rattle.packed.proofs.Lengths.{pilotBytes, length-pilot, length-pilots, length-address, length-addresses, slots-fit, length-arena, length-packed}
 
 -- a pilot that packs has 24 bits
@@ -33,7 +33,7 @@ arenaOn s o = arenaBytes s o ++ drop (length s - trailerLen) s
 
 -- and from the addresses on
 abbrev addressesOn : List ℕ → Opened → List ℕ
-addressesOn s o = addressesFrom s o 0 (o .count) ++ arenaOn s o
+addressesOn s o = packedAddresses s o 0 (o .count) ++ arenaOn s o
 
 module _ (s : List ℕ) (o : Opened) (h : Header s o) where
   -- the arena starts before its end, which comes before the last five bytes
@@ -43,20 +43,20 @@ module _ (s : List ℕ) (o : Opened) (h : Header s o) where
   -- ---- where they stand
 
   -- the pilots, behind the header
-  pilots-stand : drop headerLen (packedBytes s o) ≡ pilotsFrom s 0 (o .buckets) ++ addressesOn s o
+  pilots-stand : drop headerLen (packedBytes s o) ≡ packedPilots s 0 (o .buckets) ++ addressesOn s o
   unfolding packedBytes
-  pilots-stand = drop-at (take headerLen s) (pilotsFrom s 0 (o .buckets) ++ addressesOn s o) headerLen (length-take-le headerLen s (let l = h .begins .long in omega arith))
+  pilots-stand = drop-at (take headerLen s) (packedPilots s 0 (o .buckets) ++ addressesOn s o) headerLen (length-take-le headerLen s (let l = h .begins .long in omega arith))
 
   -- the addresses, behind the pilots
   addresses-stand : drop (headerLen + 3 * o .buckets) (packedBytes s o) ≡ addressesOn s o
   addresses-stand =
-      standing-behind (packedBytes s o) (pilotsFrom s 0 (o .buckets)) (addressesOn s o) headerLen (3 * o .buckets) pilots-stand (length-pilots s 0 (o .buckets))
+      standing-behind (packedBytes s o) (packedPilots s 0 (o .buckets)) (addressesOn s o) headerLen (3 * o .buckets) pilots-stand (length-pilots s 0 (o .buckets))
 
   -- the arena, where the packed record says
   arena-stands : drop (packedRecord o .arena) (packedBytes s o) ≡ arenaOn s o
   unfolding packedRecord
   arena-stands =
-      standing-behind (packedBytes s o) (addressesFrom s o 0 (o .count)) (arenaOn s o) (headerLen + 3 * o .buckets) (o .count * o .encoding .address)
+      standing-behind (packedBytes s o) (packedAddresses s o 0 (o .count)) (arenaOn s o) (headerLen + 3 * o .buckets) (o .count * o .encoding .address)
       addresses-stand (length-addresses s o 0 (o .count) (omega arith) (slots-fit s o h))
 
   -- ---- what they keep
@@ -77,7 +77,7 @@ module _ (s : List ℕ) (o : Opened) (h : Header s o) where
   -- the header
   pub packed-header : take headerLen (packedBytes s o) ≡ take headerLen s
   unfolding packedBytes
-  packed-header = take-at (take headerLen s) (pilotsFrom s 0 (o .buckets) ++ addressesOn s o) headerLen (length-take-le headerLen s (let l = h .begins .long in omega arith))
+  packed-header = take-at (take headerLen s) (packedPilots s 0 (o .buckets) ++ addressesOn s o) headerLen (length-take-le headerLen s (let l = h .begins .long in omega arith))
 
   -- question 24
   pub packed-is-record : fitsPacked o ≡ true → isRecord (packedBytes s o) (packedRecord o) ≡ true
@@ -89,9 +89,9 @@ module _ (s : List ℕ) (o : Opened) (h : Header s o) where
   -- pilot k, if question 8 has a yes for it
   pub packed-pilot : (k : ℕ) → k < o .buckets → directSlot (pilotAt s k) < 2 ^ 23
       → leAt (packedBytes s o) (headerLen + 3 * k) 3 ≡ packPilot (pilotAt s k)
-  unfolding pilotsFrom
+  unfolding packedPilots
   packed-pilot k l b =
-      let e = piece-stands (pilotBytes s) (pilotsFrom s) (λ k. refl) (λ k count. refl) 3 (o .buckets) (λ k l. length-pilot s k)
+      let e = piece-stands (pilotBytes s) (packedPilots s) (λ k. refl) (λ k count. refl) 3 (o .buckets) (λ k l. length-pilot s k)
       (packedBytes s o) (addressesOn s o) headerLen 0 (o .buckets) k (omega arith) l pilots-stand in
       ap (λ (n : ℕ). leAt (packedBytes s o) (headerLen + n) 3) (mul-comm 3 k)
       ∙ leAt-written (packedBytes s o) (headerLen + k * 3) 3 (packPilot (pilotAt s k)) (e ∙ ap (pilotBytes s) (zero-add k)) (packPilot-lt (pilotAt s k) b)
@@ -100,9 +100,9 @@ module _ (s : List ℕ) (o : Opened) (h : Header s o) where
   pub packed-address : (i : ℕ) → i < o .count
       → leAt (packedBytes s o) (headerLen + 3 * o .buckets + i * o .encoding .address) (o .encoding .address)
       ≡ leAt s (headerLen + 4 * o .buckets + i * (o .encoding .address + 2)) (o .encoding .address)
-  unfolding addressesFrom slotAddress
+  unfolding packedAddresses slotAddress
   packed-address i l =
-      let e = piece-stands (slotAddress s o) (addressesFrom s o) (λ k. refl) (λ k count. refl) (o .encoding .address) (o .count) (λ i l. length-address s o i l (slots-fit s o h))
+      let e = piece-stands (slotAddress s o) (packedAddresses s o) (λ k. refl) (λ k count. refl) (o .encoding .address) (o .count) (λ i l. length-address s o i l (slots-fit s o h))
       (packedBytes s o) (arenaOn s o) (headerLen + 3 * o .buckets) 0 (o .count) i (omega arith) l addresses-stand in
       leAt-parts (packedBytes s o) s _ _ (o .encoding .address) (e ∙ ap (slotAddress s o) (zero-add i))
 

@@ -19,7 +19,7 @@ use Rattle.header.specs.Header.{headerOf, arenaEnd, packedRecord}
 use Rattle.header.specs.Facts.{Header, fromPlain}
 use Rattle.header.proofs.Headers.{header-facts}
 use Rattle.header.proofs.Bounds.{arena-start, arena-end}
-use Rattle.packed.specs.Packed.{pilotAt, packPilot, pilotsFrom, slotAddress, addressesFrom, arenaBytes, packedBytes}
+use Rattle.packed.specs.Packed.{pilotAt, packPilot, packedPilots, slotAddress, packedAddresses, arenaBytes, packedBytes}
 
 -- pilot k as it is written
 abbrev pub pilotBytes : List ℕ → ℕ → List ℕ
@@ -28,10 +28,10 @@ pilotBytes s k = leBytes 3 (packPilot (pilotAt s k))
 pub length-pilot : (s : List ℕ) (k : ℕ) → length (pilotBytes s k) ≡ 3
 length-pilot s k = length-leBytes 3 (packPilot (pilotAt s k))
 
-pub length-pilots : (s : List ℕ) (k n : ℕ) → length (pilotsFrom s k n) ≡ 3 * n
-unfolding pilotsFrom
+pub length-pilots : (s : List ℕ) (k n : ℕ) → length (packedPilots s k n) ≡ 3 * n
+unfolding packedPilots
 length-pilots s k n =
-    let e = pieces-length (pilotBytes s) (pilotsFrom s) (λ i. refl) (λ i count. refl) 3 (k + n) (λ i l. length-pilot s i) k n (omega arith) in
+    let e = pieces-length (pilotBytes s) (packedPilots s) (λ i. refl) (λ i count. refl) 3 (k + n) (λ i l. length-pilot s i) k n (omega arith) in
     omega arith
 
 -- an address lies in the section with all slots
@@ -43,10 +43,10 @@ length-address s o i l h =
     (omega (arith, entry-inside i (o .count) (o .encoding .address + 2) l))
 
 pub length-addresses : (s : List ℕ) (o : Opened) (i n : ℕ) → i + n ≤ o .count
-    → headerLen + 4 * o .buckets + o .count * (o .encoding .address + 2) ≤ length s → length (addressesFrom s o i n) ≡ n * o .encoding .address
-unfolding addressesFrom
+    → headerLen + 4 * o .buckets + o .count * (o .encoding .address + 2) ≤ length s → length (packedAddresses s o i n) ≡ n * o .encoding .address
+unfolding packedAddresses
 length-addresses s o i n l h =
-    pieces-length (slotAddress s o) (addressesFrom s o) (λ k. refl) (λ k count. refl) (o .encoding .address) (o .count)
+    pieces-length (slotAddress s o) (packedAddresses s o) (λ k. refl) (λ k count. refl) (o .encoding .address) (o .count)
     (λ k b. length-address s o k b h) i n l
 
 module _ (s : List ℕ) (o : Opened) (h : Header s o) where
@@ -67,8 +67,8 @@ module _ (s : List ℕ) (o : Opened) (h : Header s o) where
   pub length-packed : length (packedBytes s o) ≡ headerLen + 3 * o .buckets + o .count * o .encoding .address + (arenaEnd s o - o .arena) + trailerLen
   unfolding packedBytes
   length-packed =
-      let p = pilotsFrom s 0 (o .buckets) in
-      let a = addressesFrom s o 0 (o .count) in
+      let p = packedPilots s 0 (o .buckets) in
+      let a = packedAddresses s o 0 (o .count) in
       let b = arenaBytes s o in
       let z = drop (length s - trailerLen) s in
       omega (

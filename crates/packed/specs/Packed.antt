@@ -18,18 +18,18 @@ unfoldable pub packPilot : ℕ → ℕ
 packPilot p = directSlot p + (if isDirect p then 2 ^ 23 else 0)
 
 -- `count` pilots from pilot k on, 3 bytes each
-unfoldable pub pilotsFrom : List ℕ → ℕ → ℕ → List ℕ
-pilotsFrom s k zero = []
-pilotsFrom s k (suc count) = leBytes 3 (packPilot (pilotAt s k)) ++ pilotsFrom s (k + 1) count
+unfoldable pub packedPilots : List ℕ → ℕ → ℕ → List ℕ
+packedPilots s k zero = []
+packedPilots s k (suc count) = leBytes 3 (packPilot (pilotAt s k)) ++ packedPilots s (k + 1) count
 
 -- the address in slot i, without its fingerprint
 unfoldable pub slotAddress : List ℕ → Opened → ℕ → List ℕ
 slotAddress s o i = take (o .encoding .address) (drop (headerLen + 4 * o .buckets + i * (o .encoding .address + 2)) s)
 
 -- `count` addresses from slot i on
-unfoldable pub addressesFrom : List ℕ → Opened → ℕ → ℕ → List ℕ
-addressesFrom s o i zero = []
-addressesFrom s o i (suc count) = slotAddress s o i ++ addressesFrom s o (i + 1) count
+unfoldable pub packedAddresses : List ℕ → Opened → ℕ → ℕ → List ℕ
+packedAddresses s o i zero = []
+packedAddresses s o i (suc count) = slotAddress s o i ++ packedAddresses s o (i + 1) count
 
 -- the arena, without a scan part behind it
 unfoldable pub arenaBytes : List ℕ → Opened → List ℕ
@@ -39,9 +39,9 @@ arenaBytes s o = take (arenaEnd s o - o .arena) (drop (o .arena) s)
 unfoldable pub packedBytes : List ℕ → Opened → List ℕ
 packedBytes s o =
     take headerLen s
-    ++ (pilotsFrom s 0 (o .buckets) ++ (addressesFrom s o 0 (o .count) ++ (arenaBytes s o ++ drop (length s - trailerLen) s)))
+    ++ (packedPilots s 0 (o .buckets) ++ (packedAddresses s o 0 (o .count) ++ (arenaBytes s o ++ drop (length s - trailerLen) s)))
 
 -- for proofs alone: `unfolding packed-defs` opens the definitions of this file
 unfoldable pub packed-defs : ℕ
-unfolding pilotAt packPilot pilotsFrom slotAddress addressesFrom arenaBytes packedBytes
+unfolding pilotAt packPilot packedPilots slotAddress packedAddresses arenaBytes packedBytes
 packed-defs = 0

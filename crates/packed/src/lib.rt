@@ -9,7 +9,7 @@ ghost use Rattle.num.specs.Choice.{oneOf};
 ghost use Rattle.num.specs.Number.{leBytes};
 ghost use Rattle.header.specs.declared.HeaderRead.the-variants.{Accepted};
 ghost use Rattle.header.specs.Header.{headerOf};
-ghost use Rattle.packed.specs.Packed.{packPilot, pilotsFrom, addressesFrom, packedBytes};
+ghost use Rattle.packed.specs.Packed.{packPilot, packedPilots, packedAddresses, packedBytes};
 use encoding::Encoding;
 use header::Opened;
 
@@ -57,7 +57,7 @@ fn put_three(out: &mut [u8], at: usize, value: u32)
 // Writes the first pilots of a section to the front of the output, 3 bytes each.
 fn put_pilots(out: &mut [u8], section: &[u8], count: usize)
     requires { ⌜ (64 + 4 * count ≤ length (now section)) × (3 * count ≤ length (now out)) ⌝ }
-    ensures { λ r. ⌜ now (out .exit) ≡ sets (now (out .entry)) 0 (pilotsFrom (now (section .entry)) 0 count) ⌝ }
+    ensures { λ r. ⌜ now (out .exit) ≡ sets (now (out .entry)) 0 (packedPilots (now (section .entry)) 0 count) ⌝ }
 {
     let mut k = 0;
     while k < count {
@@ -97,7 +97,7 @@ fn put_addresses(out: &mut [u8], section: &[u8], o: Opened)
     requires { ⌜ oneOf (4 ∷ 8 ∷ []) (o .encoding .address) ≡ true ⌝ }
     requires { ⌜ 64 + 4 * o .buckets + o .count * (o .encoding .address + 2) ≤ length (now section) ⌝ }
     requires { ⌜ o .count * o .encoding .address ≤ length (now out) ⌝ }
-    ensures { λ r. ⌜ now (out .exit) ≡ sets (now (out .entry)) 0 (addressesFrom (now (section .entry)) o 0 (o .count)) ⌝ }
+    ensures { λ r. ⌜ now (out .exit) ≡ sets (now (out .entry)) 0 (packedAddresses (now (section .entry)) o 0 (o .count)) ⌝ }
 {
     let e = o.encoding;
     let address = e.address;
@@ -120,7 +120,7 @@ fn write_tables(section: &[u8], o: Opened, output: &mut [u8])
     requires { ⌜ oneOf (4 ∷ 8 ∷ []) (o .encoding .address) ≡ true ⌝ }
     requires { ⌜ 64 + 4 * o .buckets + o .count * (o .encoding .address + 2) ≤ length (now section) ⌝ }
     requires { ⌜ 64 + 3 * o .buckets + o .count * o .encoding .address ≤ length (now output) ⌝ }
-    ensures { λ r. ⌜ now (output .exit) ≡ sets (now (output .entry)) 0 (take 64 (now (section .entry)) ++ (pilotsFrom (now (section .entry)) 0 (o .buckets) ++ addressesFrom (now (section .entry)) o 0 (o .count))) ⌝ }
+    ensures { λ r. ⌜ now (output .exit) ≡ sets (now (output .entry)) 0 (take 64 (now (section .entry)) ++ (packedPilots (now (section .entry)) 0 (o .buckets) ++ packedAddresses (now (section .entry)) o 0 (o .count))) ⌝ }
 {
     let pilots = Encoding::HEADER;
     let addresses = pilots + 3 * o.buckets;

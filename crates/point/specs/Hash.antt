@@ -10,8 +10,8 @@ use Rattle.num.specs.Wrapping.{mulMod, rotl}
 use Rattle.num.specs.Choice.{if_then_else_}
 
 -- `STEP` of point.rs
-abbrev pub step : ℕ
-step = 0x9e3779b97f4a7c15
+abbrev pub hashStep : ℕ
+hashStep = 0x9e3779b97f4a7c15
 
 unfoldable pub xorShift : ℕ → ℕ → ℕ
 xorShift h k = bitXor h (h / 2 ^ k)
@@ -21,7 +21,7 @@ mixOf h = xorShift (mulMod (xorShift (mulMod (xorShift h 30) 0xbf58476d1ce4e5b9)
 
 -- the hash after one more chunk
 unfoldable pub hashChunk : ℕ → ℕ → ℕ
-hashChunk h chunk = mulMod (rotl (bitXor h chunk) 27) step
+hashChunk h chunk = mulMod (rotl (bitXor h chunk) 27) hashStep
 
 -- the hash after `count` more chunks of eight bytes, the first of them at `at`
 unfoldable pub chunksOf : ℕ → List ℕ → ℕ → ℕ → ℕ
@@ -44,7 +44,7 @@ bucketOf h count = h % count
 
 -- for n of at least 1
 unfoldable pub positionOf : ℕ → ℕ → ℕ → ℕ
-positionOf h pilot n = mixOf (bitXor h (mulMod pilot step)) % n
+positionOf h pilot n = mixOf (bitXor h (mulMod pilot hashStep)) % n
 
 -- does a pilot, a number of 32 bits, have bit 31? Then it is at least 2^31.
 unfoldable pub isDirect : ℕ → Bool

@@ -26,14 +26,14 @@ unfolding checksumFields if_then_else_
 checksum-length true checksum = refl
 checksum-length false checksum = refl
 
-version-length : (e : Encoding) (least : ℕ) (v : StoredVersion) → length (fieldsBytes (storedFields e least v)) ≡ versionLenOf e
+pub version-length : (e : Encoding) (least : ℕ) (v : StoredVersion) → length (fieldsBytes (storedFields e least v)) ≡ versionLenOf e
 unfolding storedFields versionLenOf
 version-length e least v =
     let c = checksum-length (e .checksum) (v .checksum) in
     fields-length (storedFields e least v) ∙ omega arith
 
 module _ (e : Encoding) (least : ℕ) where
-  versions-length : (vs : List StoredVersion) → length (storedBytes e least vs) ≡ length vs * versionLenOf e
+  pub versions-length : (vs : List StoredVersion) → length (storedBytes e least vs) ≡ length vs * versionLenOf e
   unfolding storedBytes
   versions-length vs =
       even-length (λ j. fieldsBytes (storedFields e least (getD vs j noStored))) (versionLenOf e) (length vs) (λ j _. version-length e least (getD vs j noStored))
@@ -46,7 +46,7 @@ module _ (e : Encoding) (least : ℕ) where
       even-stands (λ j. fieldsBytes (storedFields e least (getD vs j noStored))) (versionLenOf e) (length vs) j (λ j _. version-length e least (getD vs j noStored)) h at
 
   module _ (gs : List KeyGroup) where
-    group-length : (i : ℕ) → length (groupBytes e least gs i) ≡ keyHeaderLenOf e + length (groupSuffix gs i) + length (groupVersions gs i) * versionLenOf e
+    pub group-length : (i : ℕ) → length (groupBytes e least gs i) ≡ keyHeaderLenOf e + length (groupSuffix gs i) + length (groupVersions gs i) * versionLenOf e
     unfolding groupBytes
     group-length i =
         omega (
@@ -58,7 +58,7 @@ module _ (e : Encoding) (least : ℕ) where
         )
 
     -- the writer's address of the next key is behind this one
-    address-step : (i : ℕ) → groupAddress e gs (suc i) ≡ groupAddress e gs i + length (groupBytes e least gs i)
+    pub address-step : (i : ℕ) → groupAddress e gs (suc i) ≡ groupAddress e gs i + length (groupBytes e least gs i)
     unfolding groupAddress
     address-step i = let n = group-length i in omega arith
 

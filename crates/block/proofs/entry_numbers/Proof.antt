@@ -1,4 +1,4 @@
-use Rattle.block.specs.EntryHeader.{numbersAt}
+use Rattle.block.specs.EntryHeader.{entryNumbers}
 use borrow.Author.Needs.{needs}
 use Rattle.block.proofs.entry_numbers.Statement.{statement}
 use Rattle.block.proofs.entry_numbers.Tie as tie
@@ -37,7 +37,7 @@ cast-t14 : tie.Need-cast-t14
 cast-t14 c = search needs
 
 returns : tie.Need-returns
-unfolding numbersAt
+unfolding entryNumbers
 returns c = cc
 
 pub entry-numbers-spec : {M : Type 1} → statement M

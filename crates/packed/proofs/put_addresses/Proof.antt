@@ -7,14 +7,14 @@ use lib.ListN.{length}
 use lib.Seq.{sets}
 use borrow.Author.Needs.{needs}
 use Rattle.num.proofs.Parts.{entry-inside}
-use Rattle.packed.specs.Packed.{slotAddress, addressesFrom}
+use Rattle.packed.specs.Packed.{slotAddress, packedAddresses}
 use Rattle.packed.proofs.Laws.{eight-most}
 use Rattle.packed.proofs.Written.{addresses-turn, addresses-done}
 use Rattle.packed.proofs.put_addresses.Statement.{statement}
 use Rattle.packed.proofs.put_addresses.Tie as tie
 
 abbrev Inv-loop : tie.InvT-loop
-Inv-loop out₀ section o address slots i₀ out i = (i ≤ o .count) × (length out ≡ length out₀) × (sets out (i * o .encoding .address) (addressesFrom section o i (o .count - i)) ≡ sets out₀ 0 (addressesFrom section o 0 (o .count)))
+Inv-loop out₀ section o address slots i₀ out i = (i ≤ o .count) × (length out ≡ length out₀) × (sets out (i * o .encoding .address) (packedAddresses section o i (o .count - i)) ≡ sets out₀ 0 (packedAddresses section o 0 (o .count)))
 
 abbrev μ-loop : tie.MeasureT-loop
 μ-loop out₀ section o address slots i₀ out i = o .count - i
@@ -79,7 +79,7 @@ loop-again c =
     let w = c .before .before .copy-address .ensures in (
       search needs,
       c .before .before .copy-address .kept .0 ∙ l .inv .1,
-      ap (λ (x : List ℕ). sets x ((l .i + 1) * a .o .encoding .address) (addressesFrom (a .section .now) (a .o) (l .i + 1) (a .o .count - (l .i + 1)))) w ∙ addresses-turn (a .section .now) (a .o) (l .out) (l .i) (c .before .before .before .before .if1 .taken) (p .1 .0) ∙ l .inv .2,
+      ap (λ (x : List ℕ). sets x ((l .i + 1) * a .o .encoding .address) (packedAddresses (a .section .now) (a .o) (l .i + 1) (a .o .count - (l .i + 1)))) w ∙ addresses-turn (a .section .now) (a .o) (l .out) (l .i) (c .before .before .before .before .if1 .taken) (p .1 .0) ∙ l .inv .2,
     )
 
 same-length : tie.Need-same-length Inv-loop μ-loop

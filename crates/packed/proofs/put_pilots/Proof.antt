@@ -6,13 +6,13 @@ use lib.ListN.{length}
 use lib.Seq.{sets}
 use borrow.Author.Needs.{needs}
 use Rattle.num.specs.Number.{leBytes}
-use Rattle.packed.specs.Packed.{pilotAt, packPilot, pilotsFrom}
+use Rattle.packed.specs.Packed.{pilotAt, packPilot, packedPilots}
 use Rattle.packed.proofs.Written.{pilots-turn, pilots-done}
 use Rattle.packed.proofs.put_pilots.Statement.{statement}
 use Rattle.packed.proofs.put_pilots.Tie as tie
 
 abbrev Inv-loop : tie.InvT-loop
-Inv-loop out₀ section count k₀ out k = (k ≤ count) × (length out ≡ length out₀) × (sets out (3 * k) (pilotsFrom section k (count - k)) ≡ sets out₀ 0 (pilotsFrom section 0 count))
+Inv-loop out₀ section count k₀ out k = (k ≤ count) × (length out ≡ length out₀) × (sets out (3 * k) (packedPilots section k (count - k)) ≡ sets out₀ 0 (packedPilots section 0 count))
 
 abbrev μ-loop : tie.MeasureT-loop
 μ-loop out₀ section count k₀ out k = count - k
@@ -53,7 +53,7 @@ loop-again c =
     let w = c .before .before .put-three .ensures ∙ ap (λ (v : ℕ). sets (l .out) (3 * l .k) (leBytes 3 v)) e in (
       search needs,
       c .before .before .put-three .kept .0 ∙ l .inv .1,
-      ap (λ (x : List ℕ). sets x (3 * (l .k + 1)) (pilotsFrom (a .section .now) (l .k + 1) (a .count - (l .k + 1)))) w ∙ pilots-turn (a .section .now) (l .out) (l .k) (a .count) (c .before .before .before .before .before .before .loop-test .taken) ∙ l .inv .2,
+      ap (λ (x : List ℕ). sets x (3 * (l .k + 1)) (packedPilots (a .section .now) (l .k + 1) (a .count - (l .k + 1)))) w ∙ pilots-turn (a .section .now) (l .out) (l .k) (a .count) (c .before .before .before .before .before .before .loop-test .taken) ∙ l .inv .2,
     )
 
 same-length : tie.Need-same-length Inv-loop μ-loop

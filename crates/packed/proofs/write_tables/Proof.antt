@@ -4,7 +4,7 @@ use native.Mathlib.Omega.{arith}
 use lib.ListN.{take}
 use lib.Seq.{length-take-le}
 use borrow.Author.Needs.{needs}
-use Rattle.packed.specs.Packed.{pilotsFrom, addressesFrom}
+use Rattle.packed.specs.Packed.{packedPilots, packedAddresses}
 use Rattle.packed.proofs.Laws.{two-behind}
 use Rattle.packed.proofs.Lengths.{length-pilots, length-addresses}
 use Rattle.packed.proofs.write_tables.Statement.{statement}
@@ -53,7 +53,7 @@ returns c =
     let s = a .section .now in
     let o = a .o in
     two-behind (a .output .now) (c .before .before .before .before .before .before .before .before .before .before .copy-in .last .0) (c .before .before .before .before .before .before .put-pilots .last .0) (c .before .before .put-addresses .last .0)
-    (take 64 s) (pilotsFrom s 0 (o .buckets)) (addressesFrom s o 0 (o .count)) 64 (64 + 3 * o .buckets)
+    (take 64 s) (packedPilots s 0 (o .buckets)) (packedAddresses s o 0 (o .count)) 64 (64 + 3 * o .buckets)
     (c .before .before .before .before .before .before .before .before .before .before .copy-in .ensures) (length-take-le 64 s (omega arith)) (ap (λ (n : ℕ). 64 + n) (length-pilots s 0 (o .buckets)))
     (omega (arith, length-addresses s o 0 (o .count) (omega arith) (p .1 .0), p .1 .1))
     (c .before .before .before .before .before .before .put-pilots .ensures) (c .before .before .put-addresses .ensures)
