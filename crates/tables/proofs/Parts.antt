@@ -22,7 +22,7 @@ use Rattle.written.specs.Joined.Field.{field}
 use Rattle.written.specs.Arena.{KeyGroup, groupAddress}
 use Rattle.written.specs.Section.{slotFields, slotsBytes, groupPrefixes, scanAddresses, scanPartBytes, flagsFor, prologueFields, section-defs}
 use Rattle.written.proofs.Stands.{even-length, fields-length}
-use Rattle.tables.specs.Internal.{countFields, widthFields, numbersBytes, listedSlot, listedSlots, listedScanFields, listedScan, Addressed, HashedUnder, Filled, tables-defs}
+use Rattle.tables.specs.Internal.{countFields, widthFields, numbersBytes, listedSlot, listedSlots, listedScanFields, listedScan, Addressed, HashedUnder, SlotsFilled, tables-defs}
 use Rattle.tables.proofs.Stores.{fields-append, joined-same}
 
 -- the flags are one for the checksums and one for the scan part
@@ -62,7 +62,7 @@ slot-size address addresses hashes i = fields-length (listedSlot address address
 
 module _ (e : Encoding) (gs : List KeyGroup) (addresses : List ℕ) (a : Addressed e gs addresses) where
   -- the slots
-  pub slots-listed : (seed : ℕ) (slots hashes : List ℕ) → HashedUnder seed gs hashes → Filled gs slots
+  pub slots-listed : (seed : ℕ) (slots hashes : List ℕ) → HashedUnder seed gs hashes → SlotsFilled gs slots
       → listedSlots (e .address) slots addresses hashes ≡ slotsBytes e seed gs (λ m. getD slots m 0)
   unfolding tables-defs section-defs
   slots-listed seed slots hashes h f =

@@ -61,7 +61,7 @@ pub record HashedUnder (seed : ℕ) (gs : List KeyGroup) (hashes : List ℕ) : T
   pub hash : (i : ℕ) → i < length gs → getD hashes i 0 ≡ groupHash seed gs i
 
 -- a slot per key, each slot with a key
-pub record Filled (gs : List KeyGroup) (slots : List ℕ) : Type 0 where
+pub record SlotsFilled (gs : List KeyGroup) (slots : List ℕ) : Type 0 where
   pub count : length slots ≡ length gs
   pub key : (m : ℕ) → m < length slots → getD slots m 0 < length gs
 

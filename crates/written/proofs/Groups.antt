@@ -33,7 +33,7 @@ version-length e least v =
     fields-length (storedFields e least v) ∙ omega arith
 
 module _ (e : Encoding) (least : ℕ) where
-  pub versions-length : (vs : List StoredVersion) → length (storedBytes e least vs) ≡ length vs * versionLenOf e
+  versions-length : (vs : List StoredVersion) → length (storedBytes e least vs) ≡ length vs * versionLenOf e
   unfolding storedBytes
   versions-length vs =
       even-length (λ j. fieldsBytes (storedFields e least (getD vs j noStored))) (versionLenOf e) (length vs) (λ j _. version-length e least (getD vs j noStored))
@@ -46,7 +46,7 @@ module _ (e : Encoding) (least : ℕ) where
       even-stands (λ j. fieldsBytes (storedFields e least (getD vs j noStored))) (versionLenOf e) (length vs) j (λ j _. version-length e least (getD vs j noStored)) h at
 
   module _ (gs : List KeyGroup) where
-    pub group-length : (i : ℕ) → length (groupBytes e least gs i) ≡ keyHeaderLenOf e + length (groupSuffix gs i) + length (groupVersions gs i) * versionLenOf e
+    group-length : (i : ℕ) → length (groupBytes e least gs i) ≡ keyHeaderLenOf e + length (groupSuffix gs i) + length (groupVersions gs i) * versionLenOf e
     unfolding groupBytes
     group-length i =
         omega (
