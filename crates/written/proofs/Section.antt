@@ -22,7 +22,7 @@ use Rattle.written.proofs.Stands.{stands-whole, stands-at, stands-left,
 use Rattle.written.proofs.Groups.{arena-length}
 use Rattle.written.proofs.Tables.{slot-length}
 
-crc-lt : (s : List ℕ) → crcOf s < 2 ^ 32
+pub crc-lt : (s : List ℕ) → crcOf s < 2 ^ 32
 crc-lt s =
     let e = crc-update s ∙ finalize-sub (updateOf 0xFFFFFFFF s) (update-lt 0xFFFFFFFF s) in
     omega arith

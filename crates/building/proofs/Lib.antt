@@ -1,0 +1,17 @@
+pub mod Lists
+pub mod Grows
+pub mod Counted
+pub mod AreaRead
+pub mod ReadsBack
+pub mod AreaStep
+pub mod Standing
+pub mod Taking
+pub mod Runs
+pub mod Measures
+pub mod Slots
+pub mod Ordered
+pub mod State
+pub mod Writing
+pub mod Beside
+pub mod Promises
+pub mod Examples
