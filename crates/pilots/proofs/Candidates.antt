@@ -18,7 +18,7 @@ use Rattle.num.proofs.Regions.{region-none, region-more, region-other}
 use Rattle.point.specs.Hash.{positionOf}
 use Rattle.construction.specs.Construct.{isFree, different, placeable, positionsOf}
 use Rattle.construction.specs.Scratch.{candidatesAt, slotsAt, indicesAt}
-use Rattle.pilots.specs.Internal.{Fits, Members, Keeps, Indexed, Tried, Trying, Tested, partOf, few, slotsIn, isCandidate, canJoin, joined}
+use Rattle.pilots.specs.Internal.{Fits, Members, Keeps, Indexed, Tried, Trying, Tested, partOf, few, slotsIn, isCandidate, canJoin, candidateTaken}
 use Rattle.pilots.proofs.Scratch.{layout, part-size, part-get, part-is, fits-kept, keeps-none, keeps-set, keeps-slots, members-size}
 
 -- ---- free and different
@@ -141,15 +141,15 @@ module _ (n : ℕ) (s : List ℕ) (at j size : ℕ) where
   pub index-spared : size ≤ few → s ≡ (if ltb few size then set s (indicesAt n + at) j else s)
   index-spared h = sym (if-false (ltb few size) _ _ (le-ltb few size h))
 
-  pub joined-length : length (joined n s at j size) ≡ length s
-  unfolding joined
-  joined-length =
+  pub candidateTaken-length : length (candidateTaken n s at j size) ≡ length s
+  unfolding candidateTaken
+  candidateTaken-length =
       if-case (λ (l : List ℕ). length l ≡ length s) (ltb few size) _ _ (λ _. length-set (set s (candidatesAt n + j) at) (indicesAt n + at) j ∙ length-set s (candidatesAt n + j) at) (λ _. length-set s (candidatesAt n + j) at)
 
-pub joined-is : (n : ℕ) (s : List ℕ) (at j size candidates : ℕ) {s₂ : List ℕ} → candidates ≡ candidatesAt n
-    → s₂ ≡ (if ltb few size then set (set s (candidates + j) at) (indicesAt n + at) j else set s (candidates + j) at) → s₂ ≡ joined n s at j size
-unfolding joined
-joined-is n s at j size candidates ec e = rw ec at e
+pub candidateTaken-is : (n : ℕ) (s : List ℕ) (at j size candidates : ℕ) {s₂ : List ℕ} → candidates ≡ candidatesAt n
+    → s₂ ≡ (if ltb few size then set (set s (candidates + j) at) (indicesAt n + at) j else set s (candidates + j) at) → s₂ ≡ candidateTaken n s at j size
+unfolding candidateTaken
+candidateTaken-is n s at j size candidates ec e = rw ec at e
 
 module _ (n : ℕ) (s : List ℕ) (at j slots v : ℕ) (es : slots ≡ slotsAt n) (ev : v ≡ getD s (slots + at) 0) where
   slot-is : v ≡ getD s (slotsAt n + at) 0
@@ -242,8 +242,8 @@ module _ {n j : ℕ} {slots ats s : List ℕ} (t : Tried n slots ats j s) (fits 
         apart = apart-turn e;
       }
 
-  tried-turn : canJoin n s at j ≡ true → Tried n slots ats (j + 1) (joined n s at j (length ats))
-  unfolding joined
+  tried-turn : canJoin n s at j ≡ true → Tried n slots ats (j + 1) (candidateTaken n s at j (length ats))
+  unfolding candidateTaken
   tried-turn e =
       if-case (λ (l : List ℕ). Tried n slots ats (j + 1) l) (ltb few (length ats)) _ _
       (λ y. tried-indexed e (ltb-true _ _ y))
@@ -308,26 +308,26 @@ module _ {hs s₀ s : List ℕ} {first size pilot j : ℕ} (t : Trying hs first 
     at-slot : at < length hs
     at-slot = rw e (position-below (getD hs (getD s (first + j) 0) 0) pilot (length hs) (fits .some-key))
 
-    joined-keeps : Keeps (length hs) (candidatesAt (length hs)) (indicesAt (length hs)) s₀ (joined (length hs) s at j size)
-    unfolding joined
-    joined-keeps =
+    candidateTaken-keeps : Keeps (length hs) (candidatesAt (length hs)) (indicesAt (length hs)) s₀ (candidateTaken (length hs) s at j size)
+    unfolding candidateTaken
+    candidateTaken-keeps =
         let z = layout (length hs) in
         let l = m .few in
         let one = keeps-set (t .keeps) (candidatesAt (length hs) + j) at (omega arith) (λ p q. omega arith) in
         if-case (λ (l : List ℕ). Keeps (length hs) (candidatesAt (length hs)) (indicesAt (length hs)) s₀ l) (ltb few size) _ _
         (λ _. keeps-set one (indicesAt (length hs) + at) j (omega arith) (λ p q. omega arith)) (λ _. one)
 
-    pub trying-turn : {s₂ : List ℕ} {r : Bool} → r ≡ canJoin (length hs) s at j → s₂ ≡ (if r then joined (length hs) s at j size else s) → r ≡ true → Trying hs first size pilot (j + 1) s₀ s₂
+    pub trying-turn : {s₂ : List ℕ} {r : Bool} → r ≡ canJoin (length hs) s at j → s₂ ≡ (if r then candidateTaken (length hs) s at j size else s) → r ≡ true → Trying hs first size pilot (j + 1) s₀ s₂
     trying-turn {s₂} {r} p q y =
         let l = m .few in
         let e : length (positionsOf hs (partOf s₀ first size) pilot) ≡ size = positions-length hs (partOf s₀ first size) pilot ∙ members-size m fits in
         rw (q ∙ if-true r _ _ y)
         (record {
-          keeps = joined-keeps;
+          keeps = candidateTaken-keeps;
           tried = rw e at (tried-turn (t .tried) (fits-kept fits (t .keeps)) slots-same at place-is at-slot (omega arith) (sym p ∙ y));
         })
 
-    pub trying-no : {s₂ : List ℕ} {r : Bool} → r ≡ canJoin (length hs) s at j → s₂ ≡ (if r then joined (length hs) s at j size else s) → r ≡ false
+    pub trying-no : {s₂ : List ℕ} {r : Bool} → r ≡ canJoin (length hs) s at j → s₂ ≡ (if r then candidateTaken (length hs) s at j size else s) → r ≡ false
         → Tested hs (partOf s₀ first size) pilot false s₀ s₂
     trying-no {s₂} {r} p q y =
         let l = m .few in

@@ -16,7 +16,7 @@ use Rattle.classes.specs.Internal.{classStart}
 use Rattle.construction.specs.Construct.{Placement, bucketCount, keyBuckets, membersOf, sizeOf, orderOf, positionsOf, filled, pilotLimit, leastPilot, bucketPlaced, bucketPlacedFor, placeBucket, placeBuckets}
 use Rattle.construction.specs.Scratch.{membersAt, candidatesAt, orderAt, pilotsAt, slotsAt, placementIn}
 use Rattle.construction.specs.Internal.{Room, Arranged, servedAs}
-use Rattle.pilots.specs.Internal.{Fits, Keeps, Searched, Chosen, Bucket, Placed, Placing, partOf, slotsIn}
+use Rattle.pilots.specs.Internal.{Fits, Keeps, Searched, Chosen, Bucket, OrderPlaced, Placing, partOf, slotsIn}
 use Rattle.pilots.proofs.Scratch.{layout, room-fits, part-get, part-set, part-other, keeps-none, keeps-then, keeps-fewer, keeps-set, keeps-part, keeps-slots, members-same, members-size}
 use Rattle.pilots.proofs.Candidates.{positions-below}
 use Rattle.pilots.proofs.Search.{least-some, least-none}
@@ -31,7 +31,7 @@ unfolding bucketCount
 bucket-key {hs} b = omega (arith, layout (length hs), b .number)
 
 module _ {hs s₀ s₁ : List ℕ} {x first size pilot : ℕ} (b : Bucket hs x first size s₀) (fits : Fits (length hs) s₀) (f : Searched hs (partOf s₀ first size) pilot s₀ s₁) where
-  pub placed-none : pilot ≡ pilotLimit → Placed hs (bucketPlacedFor hs (placementIn (length hs) s₀) x (leastPilot hs (slotsIn (length hs) s₀) x)) false s₀ s₁
+  pub placed-none : pilot ≡ pilotLimit → OrderPlaced hs (bucketPlacedFor hs (placementIn (length hs) s₀) x (leastPilot hs (slotsIn (length hs) s₀) x)) false s₀ s₁
   unfolding servedAs bucketPlacedFor
   placed-none e =
       let z = layout (length hs) in
@@ -94,7 +94,7 @@ module _ {hs s₀ s₁ : List ℕ} {x first size pilot : ℕ} (b : Bucket hs x f
         unfolding placementIn bucketPlaced slotsIn partOf
         placement-is = ap₂ (λ (p l : List ℕ). record { pilots = p; slots = l }) pilots-are (slots-stay ∙ slots-are)
 
-        pub placed-some : Placed hs (bucketPlacedFor hs (placementIn (length hs) s₀) x (leastPilot hs (slotsIn (length hs) s₀) x)) true s₀ (set s₂ (q + x) pilot)
+        pub placed-some : OrderPlaced hs (bucketPlacedFor hs (placementIn (length hs) s₀) x (leastPilot hs (slotsIn (length hs) s₀) x)) true s₀ (set s₂ (q + x) pilot)
         unfolding servedAs bucketPlacedFor
         placed-some =
             let z = layout (length hs) in
@@ -120,7 +120,7 @@ module _ {hs s : List ℕ} (room : Room hs s) (st : Arranged hs s) (x : ℕ) (h 
     size-is : end - start ≡ sizeOf hs x
     size-is = omega (arith, start-read st x h)
 
-    pub placed-small : end - start < 2 → Placed hs (placeBucket hs (placementIn (length hs) s) x) true s s
+    pub placed-small : end - start < 2 → OrderPlaced hs (placeBucket hs (placementIn (length hs) s) x) true s s
     unfolding servedAs placeBucket
     placed-small l =
         record {
@@ -139,7 +139,7 @@ module _ {hs s : List ℕ} (room : Room hs s) (st : Arranged hs s) (x : ℕ) (h 
           }
 
     pub placed-large : {r : Bool} {s₂ : List ℕ} → 2 ≤ end - start
-        → Placed hs (bucketPlacedFor hs (placementIn (length hs) s) x (leastPilot hs (slotsIn (length hs) s) x)) r s s₂ → Placed hs (placeBucket hs (placementIn (length hs) s) x) r s s₂
+        → OrderPlaced hs (bucketPlacedFor hs (placementIn (length hs) s) x (leastPilot hs (slotsIn (length hs) s) x)) r s s₂ → OrderPlaced hs (placeBucket hs (placementIn (length hs) s) x) r s s₂
     unfolding placeBucket placementIn slotsIn partOf
     placed-large l p =
         record {
@@ -167,7 +167,7 @@ module _ {hs s₀ s : List ℕ} {i : ℕ} (t : Placing hs i s₀ s) (room : Room
     bucket-number = rw bucket-read (order-below hs i h)
 
     -- the buckets that are left, with this one first
-    next-bucket : {r : Bool} {s₂ : List ℕ} → Placed hs (placeBucket hs (placementIn (length hs) s) x) r s s₂
+    next-bucket : {r : Bool} {s₂ : List ℕ} → OrderPlaced hs (placeBucket hs (placementIn (length hs) s) x) r s s₂
         → placeBuckets hs (placementIn (length hs) s₀) (orderOf hs) ≡ elim (servedAs r (placementIn (length hs) s₂)) [ some u ↦ placeBuckets hs u (drop (suc i) (orderOf hs)) | none ↦ none ]
     unfolding placeBuckets
     next-bucket p =
@@ -176,7 +176,7 @@ module _ {hs s₀ s : List ℕ} {i : ℕ} (t : Placing hs i s₀ s) (room : Room
         ∙ ap (λ (y : ℕ). placeBuckets hs (placementIn (length hs) s) (y ∷ drop (suc i) (orderOf hs))) (sym bucket-read)
         ∙ ap (λ (o : Option Placement). elim o [ some u ↦ placeBuckets hs u (drop (suc i) (orderOf hs)) | none ↦ none ]) (sym (p .answer))
 
-    pub placing-turn : {r : Bool} {s₂ : List ℕ} → Placed hs (placeBucket hs (placementIn (length hs) s) x) r s s₂ → r ≡ true → Placing hs (i + 1) s₀ s₂
+    pub placing-turn : {r : Bool} {s₂ : List ℕ} → OrderPlaced hs (placeBucket hs (placementIn (length hs) s) x) r s s₂ → r ≡ true → Placing hs (i + 1) s₀ s₂
     unfolding servedAs
     placing-turn {r} {s₂} p y =
         let e : i + 1 ≡ suc i = omega arith in
@@ -186,7 +186,7 @@ module _ {hs s₀ s : List ℕ} {i : ℕ} (t : Placing hs i s₀ s) (room : Room
               ∙ sym (next-bucket (rw y at p));
         }
 
-    pub placing-failed : {r : Bool} {s₂ : List ℕ} → Placed hs (placeBucket hs (placementIn (length hs) s) x) r s s₂ → r ≡ false
+    pub placing-failed : {r : Bool} {s₂ : List ℕ} → OrderPlaced hs (placeBucket hs (placementIn (length hs) s) x) r s s₂ → r ≡ false
         → (length s₂ ≡ length s₀) × Arranged hs s₂ × (servedAs false (placementIn (length hs) s₂) ≡ placeBuckets hs (placementIn (length hs) s₀) (orderOf hs))
     unfolding servedAs
     placing-failed p n =

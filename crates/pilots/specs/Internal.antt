@@ -62,8 +62,8 @@ unfoldable pub canJoin : ℕ → List ℕ → ℕ → ℕ → Bool
 canJoin n s at j = both (eqb (getD s (slotsAt n + at) 0) n) (not (isCandidate n s at j))
 
 -- it is candidate j of `size`
-unfoldable pub joined : ℕ → List ℕ → ℕ → ℕ → ℕ → List ℕ
-joined n s at j size = if ltb few size then set (set s (candidatesAt n + j) at) (indicesAt n + at) j else set s (candidatesAt n + j) at
+unfoldable pub candidateTaken : ℕ → List ℕ → ℕ → ℕ → ℕ → List ℕ
+candidateTaken n s at j size = if ltb few size then set (set s (candidatesAt n + j) at) (indicesAt n + at) j else set s (candidatesAt n + j) at
 
 -- the first j of these slots are candidates, free and different
 pub record Tried (n : ℕ) (slots ats : List ℕ) (j : ℕ) (s : List ℕ) : Type 0 where
@@ -113,7 +113,7 @@ pub record Filling (n first size j : ℕ) (s₀ s : List ℕ) : Type 0 where
       ≡ filled (slotsIn n s₀) (partOf s₀ (candidatesAt n) size) (partOf s₀ first size)
 
 -- what placing buckets leaves: the placement, if there is one; the members of the buckets and their order stay
-pub record Placed (hs : List ℕ) (t : Option Placement) (r : Bool) (s₀ s : List ℕ) : Type 0 where
+pub record OrderPlaced (hs : List ℕ) (t : Option Placement) (r : Bool) (s₀ s : List ℕ) : Type 0 where
   pub keeps : Keeps (length hs) (candidatesAt (length hs)) (pilotsAt (length hs)) s₀ s
   pub answer : servedAs r (placementIn (length hs) s) ≡ t
 

@@ -8,7 +8,7 @@ ghost use Rattle.num.specs.Choice.{if_then_else_};
 ghost use Rattle.construction.specs.Construct.{bucketCount, orderOf, filled, leastPilot, bucketPlacedFor, placeBucket, placeBuckets};
 ghost use Rattle.construction.specs.Scratch.{membersAt, candidatesAt, orderAt, pilotsAt, slotsAt, indicesAt, scratchLen, placementIn};
 ghost use Rattle.construction.specs.Internal.{Room, Arranged, servedAs};
-ghost use Rattle.pilots.specs.Internal.{Fits, Members, Keeps, Tested, Searched, Chosen, Bucket, Indexed, Placed, few, partOf, slotsIn, isCandidate, canJoin, joined};
+ghost use Rattle.pilots.specs.Internal.{Fits, Members, Keeps, Tested, Searched, Chosen, Bucket, Indexed, OrderPlaced, few, partOf, slotsIn, isCandidate, canJoin, candidateTaken};
 
 // Pilots are below this.
 const LIMIT: u32 = 100_000;
@@ -111,7 +111,7 @@ fn put_index(scratch: &mut [u32], n: usize, at: usize, j: usize, size: usize)
 fn try_member(scratch: &mut [u32], n: usize, at: usize, j: usize, size: usize) -> bool
     requires { ⌜ Fits n (now scratch) × (at < n) × (j < n) × (few < j → Indexed n j (now scratch)) ⌝ }
     ensures { λ r. ⌜ r ≡ canJoin n (now (scratch .entry)) at j ⌝ }
-    ensures { λ r. ⌜ now (scratch .exit) ≡ (if r then joined n (now (scratch .entry)) at j size else now (scratch .entry)) ⌝ }
+    ensures { λ r. ⌜ now (scratch .exit) ≡ (if r then candidateTaken n (now (scratch .entry)) at j size else now (scratch .entry)) ⌝ }
 {
     if widen(scratch[slots_at(n) + at]) != n {
         return false;
@@ -176,7 +176,7 @@ fn fill_slots(scratch: &mut [u32], n: usize, first: usize, size: usize)
 // Places bucket `x` with the least pilot that serves its members.
 fn place_members(hashes: &[u64], scratch: &mut [u32], x: usize, first: usize, size: usize) -> bool
     requires { ⌜ Fits (length (now hashes)) (now scratch) × Bucket (now hashes) x first size (now scratch) ⌝ }
-    ensures { λ r. ⌜ Placed (now (hashes .entry)) (bucketPlacedFor (now (hashes .entry)) (placementIn (length (now (hashes .entry))) (now (scratch .entry))) x (leastPilot (now (hashes .entry)) (slotsIn (length (now (hashes .entry))) (now (scratch .entry))) x)) r (now (scratch .entry)) (now (scratch .exit)) ⌝ }
+    ensures { λ r. ⌜ OrderPlaced (now (hashes .entry)) (bucketPlacedFor (now (hashes .entry)) (placementIn (length (now (hashes .entry))) (now (scratch .entry))) x (leastPilot (now (hashes .entry)) (slotsIn (length (now (hashes .entry))) (now (scratch .entry))) x)) r (now (scratch .entry)) (now (scratch .exit)) ⌝ }
 {
     let n = hashes.len();
     let pilot = find_pilot(hashes, scratch, first, size);
@@ -191,7 +191,7 @@ fn place_members(hashes: &[u64], scratch: &mut [u32], x: usize, first: usize, si
 // Places bucket `x`, if it has two members or more.
 fn place_bucket(hashes: &[u64], scratch: &mut [u32], x: usize) -> bool
     requires { ⌜ Room (now hashes) (now scratch) × Arranged (now hashes) (now scratch) × (x < bucketCount (now hashes)) ⌝ }
-    ensures { λ r. ⌜ Placed (now (hashes .entry)) (placeBucket (now (hashes .entry)) (placementIn (length (now (hashes .entry))) (now (scratch .entry))) x) r (now (scratch .entry)) (now (scratch .exit)) ⌝ }
+    ensures { λ r. ⌜ OrderPlaced (now (hashes .entry)) (placeBucket (now (hashes .entry)) (placementIn (length (now (hashes .entry))) (now (scratch .entry))) x) r (now (scratch .entry)) (now (scratch .exit)) ⌝ }
 {
     let start = widen(scratch[x]);
     let size = widen(scratch[x + 1]) - start;

@@ -21,7 +21,7 @@ use Rattle.builder.specs.Add.{maxKeys}
 use Rattle.builder.specs.Internal.{Countable}
 use Rattle.builder.proofs.Asked.{key-limit}
 use Rattle.readback.specs.ReadBack.{countedAt, versionRead, versionsRead, versionsReadFor, keyRead, keysRead}
-use Rattle.readback.specs.Internal.{Lent, Running, versionPasses}
+use Rattle.readback.specs.Internal.{LentArea, Running, versionPasses}
 
 -- two questions with the same answer to a "no" are one
 asked : (a b : Bool) (x : Option Builder) → (if both a b then x else none) ≡ (if a then (if b then x else none) else none)
@@ -83,7 +83,7 @@ passes-limit area r len place new from e =
     omega (arith, length-take (from + len - from) (drop from area), key-limit len (areaSize area place) (both-true _ _ (both-true _ _ e .1) .0))
 
 -- one more entry can be counted in a record of what was read
-pub running-countable : (area : List ℕ) (end : ℕ) (r : Builder) → Lent area end → Running area end r → Countable area r
+pub running-countable : (area : List ℕ) (end : ℕ) (r : Builder) → LentArea area end → Running area end r → Countable area r
 running-countable area end r l h =
     record { inside = omega arith; keys = omega arith; versions = omega arith; suffix-bytes = omega arith; used = omega arith; anchor = h .anchor }
 

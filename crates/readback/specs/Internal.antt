@@ -26,7 +26,7 @@ versionPasses area r keyLen place new =
     (both (leb (r .totals .«last_value_offset») (areaOffset area place)) (leb (r .totals .keys + (if new then 1 else 0)) maxKeys)))
 
 -- the end of the used bytes, in the lent area
-pub record Lent (area : List ℕ) (end : ℕ) : Type 0 where
+pub record LentArea (area : List ℕ) (end : ℕ) : Type 0 where
   pub inside : end ≤ length area
   pub small : end ≤ 2 ^ 30
 

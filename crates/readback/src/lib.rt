@@ -8,7 +8,7 @@ ghost use Rattle.num.specs.Choice.{if_then_else_};
 ghost use Rattle.area.specs.Area.{areaKeyLen};
 ghost use Rattle.builder.specs.Record.{sizeable};
 ghost use Rattle.readback.specs.ReadBack.{versionRead, versionsRead, keyRead, areaRead, sameTotals, readsBack};
-ghost use Rattle.readback.specs.Internal.{Lent, Running, recordRead, versionPasses};
+ghost use Rattle.readback.specs.Internal.{LentArea, Running, recordRead, versionPasses};
 use builder::Builder;
 use encoding::Totals;
 
@@ -59,7 +59,7 @@ fn version_read(
     count: u64,
     new_key: bool,
 ) -> Read
-    requires { ⌜ Lent (now area) end × Running (now area) end r ⌝ }
+    requires { ⌜ LentArea (now area) end × Running (now area) end r ⌝ }
     requires { ⌜ (head + 8 + areaKeyLen (now area) head ≤ end) × (place ≤ end) ⌝ }
     ensures { λ q. ⌜ recordRead q ≡ versionRead (now (area .entry)) end r head place count «new_key» ⌝ }
 {
@@ -90,7 +90,7 @@ fn version_read(
 
 // The versions of the last key behind its first.
 fn versions_read(area: &[u8], end: u64, first: Builder, versions: u64) -> Read
-    requires { ⌜ Lent (now area) end × Running (now area) end first ⌝ }
+    requires { ⌜ LentArea (now area) end × Running (now area) end first ⌝ }
     requires { ⌜ (0 < first .totals .keys) × (0 < versions) ⌝ }
     ensures { λ q. ⌜ recordRead q ≡ versionsRead (versions - 1) (now (area .entry)) end first 1 ⌝ }
 {
@@ -113,7 +113,7 @@ fn versions_read(area: &[u8], end: u64, first: Builder, versions: u64) -> Read
 
 // The key whose head stands behind the used bytes, with its versions.
 fn key_read(area: &[u8], end: u64, r: Builder) -> Read
-    requires { ⌜ Lent (now area) end × Running (now area) end r ⌝ }
+    requires { ⌜ LentArea (now area) end × Running (now area) end r ⌝ }
     ensures { λ q. ⌜ recordRead q ≡ keyRead (now (area .entry)) end r ⌝ }
 {
     let head = r.used;
@@ -137,7 +137,7 @@ fn key_read(area: &[u8], end: u64, r: Builder) -> Read
 
 // The keys from the empty record on.
 fn area_read(area: &[u8], end: u64) -> Read
-    requires { ⌜ Lent (now area) end ⌝ }
+    requires { ⌜ LentArea (now area) end ⌝ }
     ensures { λ q. ⌜ recordRead q ≡ areaRead (now (area .entry)) end ⌝ }
 {
     let mut r = Builder {

@@ -3,7 +3,7 @@ use mathlib.Core.Bool.{true, false}
 use lib.ListN.{length}
 use borrow.Author.Needs.{needs}
 use Rattle.num.specs.Choice.{if_then_else_}
-use Rattle.pilots.proofs.Candidates.{join-taken, join-free, joined-is, joined-length}
+use Rattle.pilots.proofs.Candidates.{join-taken, join-free, candidateTaken-is, candidateTaken-length}
 use Rattle.pilots.proofs.try_member.Statement.{statement}
 use Rattle.pilots.proofs.try_member.Tie as tie
 
@@ -64,7 +64,7 @@ put-index-requires c κs = search needs
 same-length-2 : tie.Need-same-length-2
 same-length-2 c =
     let a = c .before .before .before .before .before .before .before .before .before .before .before .before .before .args in
-    ap length (joined-is (a .n) (a .scratch .now) (a .at) (a .j) (a .size) (c .before .before .before .before .candidates-at .result) (c .before .before .before .before .candidates-at .ensures .0) (c .before .before .put-index .ensures)) ∙ joined-length (a .n) (a .scratch .now) (a .at) (a .j) (a .size)
+    ap length (candidateTaken-is (a .n) (a .scratch .now) (a .at) (a .j) (a .size) (c .before .before .before .before .candidates-at .result) (c .before .before .before .before .candidates-at .ensures .0) (c .before .before .put-index .ensures)) ∙ candidateTaken-length (a .n) (a .scratch .now) (a .at) (a .j) (a .size)
 
 returns-3 : tie.Need-returns-3
 unfolding if_then_else_
@@ -73,7 +73,7 @@ returns-3 c =
     let k = c .before .before .before .before .before .before .before .before .before .before .before .slots-at in
     let w = c .before .before .before .before .before .before .before .before .before .widen in (
       join-free (a .n) (a .scratch .now) (a .at) (a .j) (k .result) (w .result) (k .ensures .0) (w .ensures .0) false (sym (c .before .before .before .before .before .if2 .left) ∙ c .before .before .before .before .before .before .is-candidate .ensures) (c .before .before .before .before .before .before .before .before .if1 .left),
-      joined-is (a .n) (a .scratch .now) (a .at) (a .j) (a .size) (c .before .before .before .before .candidates-at .result) (c .before .before .before .before .candidates-at .ensures .0) (c .before .before .put-index .ensures),
+      candidateTaken-is (a .n) (a .scratch .now) (a .at) (a .j) (a .size) (c .before .before .before .before .candidates-at .result) (c .before .before .before .before .candidates-at .ensures .0) (c .before .before .put-index .ensures),
     )
 
 pub try-member-spec : {M : Type 1} → statement M
