@@ -19,7 +19,7 @@ use Rattle.construction.proofs.Free.{before-least}
 use Rattle.construction.proofs.Members.{bucket-below, bucket-some, order-distinct}
 use Rattle.construction.proofs.Filling.{least-pilot}
 use Rattle.construction.proofs.Placing.{Shape, empty-shape, Turn, large, small, turn-of, buckets-step, free-singles, differ-unasked}
-use Rattle.construction.proofs.Slots.{direct-is, direct-slot, Owned, buckets-shape, buckets-split, buckets-own}
+use Rattle.construction.proofs.Slots.{Owned, buckets-shape, buckets-split, buckets-own}
 use Rattle.construction.proofs.Singles.{Left, single-is, single-not, single-free, single-left, single-owns, singles-append, singles-left, singles-keep}
 
 module _ (hs : List ℕ) where
@@ -152,7 +152,7 @@ module _ (hs : List ℕ) where
           let same : f .0 ≡ u = cc in
           let n = singles-left hs (c .0) (x ∷ c .1) u (rw (c .2) at left) .shape .slots-length in
           let inside : at < length hs = omega (arith, rw same at (f .3 .inside)) in
-          rw (f .4) (direct (direct-is at) (rw (direct-slot at (omega arith)) inside))
+          direct at inside (f .4)
 
       -- every pilot is below 100,000 or names a slot
       pub sound-pilots : length hs ≤ 2 ^ 20 → (x : ℕ) → PilotSound (length hs) (getD (t .pilots) x 0)

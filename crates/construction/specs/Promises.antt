@@ -8,7 +8,7 @@ use mathlib.Core.Option.{some}
 use Prim.Native.Nat.{ℕ, _+_, _<_, _≤_, _^_}
 use lib.ListN.{length, getD}
 use Rattle.num.specs.Answer.{given, refused}
-use Rattle.point.specs.Hash.{bucketOf, positionOf, isDirect, directSlot, slotOf}
+use Rattle.point.specs.Hash.{bucketOf, positionOf, slotOf}
 use Rattle.construction.specs.Construct.{Placement, Constructed, seedOf, hashesOf, bucketCount, membersOf, sizeOf, orderOf, emptyPlacement, isFree, serves, placeBuckets, placeSingles, singlesFor, placementOf, constructOf}
 
 -- the bucket of key i
@@ -75,10 +75,10 @@ FirstSlots hs t =
     × FirstFree (placeSingles hs u before .slots) at
     × (getD (t .pilots) x 0 ≡ 2 ^ 31 + at)
 
--- a pilot is below 100,000 or names one of n slots
+-- a pilot is below 100,000 or names one of n slots, with bit 31
 pub data PilotSound (n p : ℕ) : Type 0 where
   searched : p < 100000 → PilotSound n p
-  direct : isDirect p ≡ true → directSlot p < n → PilotSound n p
+  direct : (at : ℕ) → at < n → p ≡ 2 ^ 31 + at → PilotSound n p
 
 -- the pilots of a placement
 pub record Pilots (hs : List ℕ) (t : Placement) : Type 0 where
