@@ -1,8 +1,8 @@
 /* The delivered interface for a linker or a loader: link libkiban.a (rt staticlib kiban).
  * A result is 0 or the number of document 01 for the first question that is answered with no (kiban_crc32 returns the CRC itself);
  * on a refusal nothing behind a pointer changes but scratch. No entry allocates.
- * Memory that an entry writes (scratch, output, record, len, answer) must not overlap any other memory of the same call: the
- * proofs rest on it. What is only read may overlap. */
+ * Memory that an entry writes (scratch, output, record, len, answer, size, and the area and the builder of kiban_add) must not
+ * overlap any other memory of the same call: the proofs rest on it. What is only read may overlap. */
 #ifndef KIBAN_H
 #define KIBAN_H
 
@@ -37,5 +37,25 @@ uint64_t kiban_lookup(const uint8_t *section, size_t section_len, const uint64_t
 
 /* Do an offset and a length lie in the data? 0, or 26. */
 uint64_t kiban_value(const uint8_t *data, size_t data_len, uint64_t offset, uint64_t length);
+
+/* Adds an entry to a builder: `tombstone` 0 is a Put, any other number a tombstone; `new_key` 0 is a version of the last key,
+ * any other number one of a new key; the value stands at `offset` of the data. On 0 the area holds the entry behind the used
+ * bytes (25 bytes, and 8 and the key's length for a new key), an entry that is not new is counted at the last key, and the
+ * builder holds: keys, versions, suffix bytes, used bytes of the area, least and greatest sequence, longest key, longest
+ * value, most versions of a key, last offset, place of the last key, place of the anchor, and four zeros. Sixteen zeros are
+ * the empty builder. The next call gets the used bytes and the builder as this one left them; the area may be a longer one. */
+uint64_t kiban_add(uint8_t *area, size_t area_len, uint64_t builder[16], uint64_t tombstone,
+                   const uint8_t *key, size_t key_len, const uint8_t *value, size_t value_len,
+                   uint64_t sequence, uint64_t new_key, uint64_t offset);
+
+/* On 0 `*size` is the number of bytes of the section that kiban_write writes with this scan prefix. */
+uint64_t kiban_size(const uint64_t builder[16], uint64_t prefix, uint64_t *size);
+
+/* Writes the section of a builder and its area, with a scan prefix of at most 24 bytes. With n keys, `scratch64` has room for
+ * n numbers, `scratch32` for 6n + 8, and the output for the bytes that kiban_size tells. On 0 the output holds the section,
+ * `*len` is the number of its bytes, and the output keeps what it held behind them. */
+uint64_t kiban_write(const uint8_t *area, size_t area_len, const uint64_t builder[16], uint64_t prefix,
+                     uint64_t *scratch64, size_t scratch64_len, uint32_t *scratch32, size_t scratch32_len,
+                     uint8_t *output, size_t output_len, uint64_t *len);
 
 #endif

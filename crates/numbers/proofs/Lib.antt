@@ -1,1 +1,2 @@
 pub mod RecordNumbers
+pub mod BuilderNumbers

@@ -10,3 +10,8 @@ use Rattle.writing.specs.declared.Wrote.the-variants as wrote
 unfoldable pub wroteRead : Answer (List ℕ) → Wrote
 wroteRead (given s) = wrote.Bytes (length s)
 wroteRead (refused n) = wrote.Refused n
+
+-- the number of the question that writing fails, 0 if it fails none
+unfoldable pub wroteNumber : Wrote → ℕ
+wroteNumber (wrote.Bytes n) = 0
+wroteNumber (wrote.Refused n) = n
