@@ -19,7 +19,7 @@ use Rattle.builder.specs.Internal.{Passed}
 use Rattle.builder.proofs.Standing.{Keyed, stood, follows-key}
 use Rattle.adding.proofs.Stores.{behind}
 
-length-head : (key : List ℕ) → length (headBytes key) ≡ headLen + length key
+pub length-head : (key : List ℕ) → length (headBytes key) ≡ headLen + length key
 unfolding headBytes
 length-head key =
     omega (arith, length-append (leBytes 4 (length key)) (leBytes 4 1 ++ key), length-append (leBytes 4 1) key, length-leBytes 4 (length key), length-leBytes 4 1)

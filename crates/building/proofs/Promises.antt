@@ -178,7 +178,7 @@ module _ («data» blocks : List ℕ) (taken : List Offer) (h : HoldsJust «data
         subst⁻¹ (List·Memᴰ v) versions-are
         (subst (λ (u : Version). List·Memᴰ u (map (versionIn «data») (map entryAdded taken))) e (Memᴰ·map (versionIn «data») (Memᴰ·map entryAdded (b .1))))
 
-    same-versions : (b : LinkerStore) (key : List ℕ) (limit : ℕ) → SameAdded taken b key limit → SameVersions t b key limit
+    pub same-versions : (b : LinkerStore) (key : List ℕ) (limit : ℕ) → SameAdded taken b key limit → SameVersions t b key limit
     same-versions b key limit s =
         record {
           there = λ v m k l. s .there v (held-added v m) k l;

@@ -19,7 +19,7 @@ use Rattle.header.proofs.Numbers.{scan-flag, no-scan-flag, header-numbers}
 use Rattle.packed.specs.Packed.{packedBytes}
 use Rattle.packed.proofs.Lengths.{length-packed}
 use Rattle.numbers.specs.Numbers.{flagNumber, recordNumbers}
-use Rattle.calls.specs.Calls.{headerPlaces, scanNumber, packedStart, arenaStop}
+use Rattle.calls.specs.Calls.{headerPlaces, scanNumber, packedStart, arenaStop, packedSize}
 
 -- the checksum flag as a number
 flag-number : (n : ℕ) → flagNumber (hasFlag checksumFlag n) ≡ n % 2
@@ -55,8 +55,8 @@ module _ (s : List ℕ) (o : Opened) (h : Header s o) where
   unfolding recordNumbers headerPlaces packedStart packedRecord withScan fieldsOf encodingAt flagsOf flagNumber if_then_else_
   packed-record-places = ap (λ (r : Opened). recordNumbers (packedRecord r)) (header-numbers s o h) ∙ rw (flag-number (flagsOf s))
 
-  pub packed-length : length (packedBytes s o) ≡ packedStart s + (arenaStop s - leAt s 24 8) + 5
-  unfolding packedStart arenaStop arenaEnd
+  pub packed-length : length (packedBytes s o) ≡ packedSize s
+  unfolding packedSize packedStart arenaStop arenaEnd
   packed-length =
       let start = h .stored in
       let buckets = h .numbers .buckets in

@@ -242,10 +242,13 @@ pub record RecordPlaces : Type 0 where
 unfoldable pub arenaStop : List ℕ → ℕ
 arenaStop s = if eqb (scanNumber s) 0 then length s - 5 else scanNumber s
 
--- what a packed opening leaves in the output: `*len` bytes, as many as the packed form up to its arena, the arena and the last five have,
--- and behind them what it held
+-- how many bytes a section's packed form has: those up to its arena, the arena, and the last five
+unfoldable pub packedSize : List ℕ → ℕ
+packedSize s = packedStart s + (arenaStop s - leAt s 24 8) + 5
+
+-- what a packed opening leaves in the output: `*len` bytes, as many as the packed form has, and behind them what it held
 pub record OutputLeft (c : PackCall) : Type 0 where
-  pub len : c .len-after ≡ packedStart (c .lent .section) + (arenaStop (c .lent .section) - leAt (c .lent .section) 24 8) + 5
+  pub len : c .len-after ≡ packedSize (c .lent .section)
   pub inside : c .len-after ≤ length (c .output)
   pub behind : drop (c .len-after) (c .output-after) ≡ drop (c .len-after) (c .output)
 

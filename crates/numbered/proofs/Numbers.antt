@@ -1,6 +1,6 @@
 -- Every refusal of an entry gives one of the entry's own numbers, layer by layer, and no own number is 0.
 -- Assumes nothing.
-use mathlib.Core.Path.{_≡_, refl, sym, ap, _∙_}
+use mathlib.Core.Path.{_≡_, refl, sym, ap, _∙_, subst⁻¹}
 use mathlib.Core.Logic.{_↔_, _⊎_, inl, inr, ⊎-elim}
 use mathlib.Core.Bool.{Bool, true, false}
 use mathlib.Core.List.{List, [], _∷_, List·Memᴰ, List·Memᴰ·head, List·Memᴰ·tail}
@@ -40,10 +40,21 @@ use Rattle.locator.specs.declared.Located.the-variants as located
 use Rattle.locator.specs.Locator.{readable, locatedNumber, versionsFrom}
 use Rattle.lookup.specs.Lookup.{keyRecordOf, keyRecordAt, slotRead, hashRead, locateOf}
 use Rattle.lookup.specs.Value.{valueInside, valueNumber}
+use Rattle.construction.specs.Construct.{Constructed, constructOf}
+use Rattle.construction.specs.Promises.{SeedDecided}
+use Rattle.construction.proofs.Promises.{seed-decided}
+use Rattle.area.specs.Area.{keysIn}
+use Rattle.builder.specs.declared.Builder.{Builder}
+use Rattle.builder.specs.Offer.{Offer}
+use Rattle.builder.specs.Record.{sizeOfSection, sizedRead, sizedNumber}
+use Rattle.builder.specs.Add.{BuilderState, addOf, addedRead, addedNumber}
+use Rattle.writer.specs.Write.{sectionFor, writeOf}
+use Rattle.writing.specs.Wrote.{wroteRead, wroteNumber}
 use Rattle.numbers.specs.Numbers.{openedOf}
+use Rattle.numbers.specs.BuilderNumbers.{builderIn}
 use Rattle.kiban.specs.Written.{lookupOf}
-use Rattle.numbered.specs.Numbers.{OwnNumber, openNumbers, packNumbers, lookupNumbers, valueNumbers}
-use Rattle.numbered.specs.Numbers.{OpensNumbered, PacksNumbered, LooksNumbered, ValuesNumbered}
+use Rattle.numbered.specs.Numbers.{OwnNumber, openNumbers, packNumbers, lookupNumbers, valueNumbers, addNumbers, sizeNumbers, writeNumbers}
+use Rattle.numbered.specs.Numbers.{OpensNumbered, PacksNumbered, LooksNumbered, ValuesNumbered, AddsNumbered, SizesNumbered, WritesNumbered}
 
 -- the number is one of these, as a test that computes
 abbrev Own : List ℕ → ℕ → Type 0
@@ -292,3 +303,57 @@ value-numbered «data» offset len =
 pub values-numbered : ValuesNumbered
 unfolding ValuesNumbered
 values-numbered «data» offset len = let x = value-numbered «data» offset len in record { number = x .0; zero = x .1 }
+
+-- ---- building
+
+-- an answer whose number is 0 if it is given, and the refusal's if not
+answer-numbered : {A : Type 0} (own : List ℕ) (number : Answer A → ℕ) → ((a : A) → number (given a) ≡ 0) → ((n : ℕ) → number (refused n) ≡ n)
+    → oneOf own 0 ≡ false → (x : Answer A) → Gives own x → Numbered own (number x) ((a : A) × (x ≡ given a))
+answer-numbered {A} own number f g z (given a) p = subst⁻¹ (λ (n : ℕ). Numbered own n ((b : A) × (given a ≡ given b))) (f a) (done own (a, refl))
+answer-numbered {A} own number f g z (refused n) p =
+    subst⁻¹ (λ (m : ℕ). Numbered own m ((a : A) × (refused n ≡ given a))) (g n) (not-done own n z p (λ q. sym (g n) ∙ ap number (q .1) ∙ f (q .0)))
+
+-- questions 30 to 34 and 37
+add-own : (area : List ℕ) (b : Builder) (e : Offer) → Gives addNumbers (addOf area b e)
+unfolding addOf oneOf either
+add-own area b e =
+    let P = Gives {A = BuilderState} addNumbers in
+    asked P _ _ _ refl (asked P _ _ _ refl (asked P _ _ _ refl (asked P _ _ _ refl (asked P _ _ _ refl (asked P _ _ _ refl tt)))))
+
+pub adds-numbered : AddsNumbered
+unfolding AddsNumbered addedNumber addedRead oneOf either
+adds-numbered area numbers e =
+    let x = answer-numbered addNumbers (λ a. addedNumber (addedRead a)) (λ s. refl) (λ n. refl) refl (addOf area (builderIn numbers) e) (add-own area (builderIn numbers) e) in
+    record { number = x .0; zero = x .1 }
+
+-- question 37 of the size
+size-own : (b : Builder) (prefix : ℕ) → Gives sizeNumbers (sizeOfSection b prefix)
+unfolding sizeOfSection oneOf either
+size-own b prefix = asked (Gives sizeNumbers) _ _ _ refl tt
+
+pub sizes-numbered : SizesNumbered
+unfolding SizesNumbered sizedNumber sizedRead oneOf either
+sizes-numbered numbers prefix =
+    let x = answer-numbered sizeNumbers (λ a. sizedNumber (sizedRead a)) (λ n. refl) (λ n. refl) refl (sizeOfSection (builderIn numbers) prefix) (size-own (builderIn numbers) prefix) in
+    record { number = x .0; zero = x .1 }
+
+-- question 40
+section-own : (area : List ℕ) (b : Builder) (prefix : ℕ) (a : Answer Constructed) → constructOf (keysIn area (b .totals .keys)) ≡ a
+    → Gives writeNumbers (sectionFor area b prefix a)
+unfolding sectionFor SeedDecided oneOf either
+section-own area b prefix (given c) e = tt
+section-own area b prefix (refused n) e = subst⁻¹ (Own writeNumbers) (seed-decided (keysIn area (b .totals .keys)) .never n e) refl
+
+-- questions 35 to 40
+write-own : (area : List ℕ) (b : Builder) (prefix room64 room32 room : ℕ) → Gives writeNumbers (writeOf area b prefix room64 room32 room)
+unfolding writeOf oneOf either
+write-own area b prefix room64 room32 room =
+    let P = Gives {A = List ℕ} writeNumbers in
+    asked P _ _ _ refl (asked P _ _ _ refl (asked P _ _ _ refl (asked P _ _ _ refl (asked P _ _ _ refl (section-own area b prefix _ refl)))))
+
+pub writes-numbered : WritesNumbered
+unfolding WritesNumbered wroteNumber wroteRead oneOf either
+writes-numbered area numbers prefix room64 room32 room =
+    let x = answer-numbered writeNumbers (λ a. wroteNumber (wroteRead a)) (λ s. refl) (λ n. refl) refl
+    (writeOf area (builderIn numbers) prefix room64 room32 room) (write-own area (builderIn numbers) prefix room64 room32 room) in
+    record { number = x .0; zero = x .1 }

@@ -1,10 +1,11 @@
 -- Demand 1, of the numbers that the entries give: each entry has numbers of its own, a refusal gives one of them and never 0, and 0 is
--- given exactly if the entry accepted, or answered a version or none.
+-- given exactly if the entry accepted, answered a version or none, took what was added, told the size, or wrote the section.
 use mathlib.Core.Path.{_≡_}
 use mathlib.Core.Logic.{_↔_, _⊎_}
 use mathlib.Core.List.{List, [], _∷_, List·Memᴰ}
 use Prim.Native.Nat.{ℕ, _+_, _≤_}
 use lib.ListN.{length}
+use Rattle.num.specs.Answer.{given}
 use Rattle.header.specs.declared.Opened.{Opened}
 use Rattle.header.specs.declared.HeaderRead.the-variants.{Accepted}
 use Rattle.header.specs.Header.{headerNumber}
@@ -14,6 +15,12 @@ use Rattle.locator.specs.declared.ValueLocator.{ValueLocator}
 use Rattle.locator.specs.declared.Located.the-variants.{Found, Missing}
 use Rattle.locator.specs.Locator.{locatedNumber}
 use Rattle.lookup.specs.Value.{valueNumber}
+use Rattle.builder.specs.Offer.{Offer}
+use Rattle.builder.specs.Record.{sizeOfSection, sizedRead, sizedNumber}
+use Rattle.builder.specs.Add.{BuilderState, addOf, addedRead, addedNumber}
+use Rattle.writer.specs.Write.{writeOf}
+use Rattle.writing.specs.Wrote.{wroteRead, wroteNumber}
+use Rattle.numbers.specs.BuilderNumbers.{builderIn}
 use Rattle.kiban.specs.Written.{lookupOf}
 
 -- 0, or one of an entry's own numbers
@@ -35,6 +42,18 @@ lookupNumbers = 24 ∷ 25 ∷ []
 -- of `kiban_value`
 abbrev pub valueNumbers : List ℕ
 valueNumbers = 26 ∷ []
+
+-- of `kiban_add`
+abbrev pub addNumbers : List ℕ
+addNumbers = 30 ∷ 31 ∷ 32 ∷ 33 ∷ 34 ∷ 37 ∷ []
+
+-- of `kiban_size`
+abbrev pub sizeNumbers : List ℕ
+sizeNumbers = 37 ∷ []
+
+-- of `kiban_write`
+abbrev pub writeNumbers : List ℕ
+writeNumbers = 35 ∷ 36 ∷ 37 ∷ 38 ∷ 39 ∷ 40 ∷ []
 
 -- the plain opening of a section beside data and a block list, with a key scratch of a length
 pub record OpenNumbered (s «data» blocks : List ℕ) (scratch : ℕ) : Type 0 where
@@ -58,6 +77,22 @@ pub record ValueNumbered («data» : List ℕ) (offset len : ℕ) : Type 0 where
   pub number : OwnNumber valueNumbers (valueNumber «data» offset len)
   pub zero : (valueNumber «data» offset len ≡ 0) ↔ (offset + len ≤ length «data»)
 
+-- an add of an entry to an area, over sixteen numbers as the record
+pub record AddNumbered (area numbers : List ℕ) (e : Offer) : Type 0 where
+  pub number : OwnNumber addNumbers (addedNumber (addedRead (addOf area (builderIn numbers) e)))
+  pub zero : (addedNumber (addedRead (addOf area (builderIn numbers) e)) ≡ 0) ↔ ((s : BuilderState) × (addOf area (builderIn numbers) e ≡ given s))
+
+-- the size of what is written with a scan prefix
+pub record SizeNumbered (numbers : List ℕ) (prefix : ℕ) : Type 0 where
+  pub number : OwnNumber sizeNumbers (sizedNumber (sizedRead (sizeOfSection (builderIn numbers) prefix)))
+  pub zero : (sizedNumber (sizedRead (sizeOfSection (builderIn numbers) prefix)) ≡ 0) ↔ ((n : ℕ) × (sizeOfSection (builderIn numbers) prefix ≡ given n))
+
+-- writing with a scan prefix, with scratches and an output of these lengths
+pub record WriteNumbered (area numbers : List ℕ) (prefix room64 room32 room : ℕ) : Type 0 where
+  pub number : OwnNumber writeNumbers (wroteNumber (wroteRead (writeOf area (builderIn numbers) prefix room64 room32 room)))
+  pub zero : (wroteNumber (wroteRead (writeOf area (builderIn numbers) prefix room64 room32 room)) ≡ 0)
+      ↔ ((s : List ℕ) × (writeOf area (builderIn numbers) prefix room64 room32 room ≡ given s))
+
 -- demand 1 of the numbers, entry by entry
 unfoldable pub OpensNumbered : Type 0
 OpensNumbered = (s «data» blocks : List ℕ) (scratch : ℕ) → OpenNumbered s «data» blocks scratch
@@ -70,3 +105,12 @@ LooksNumbered = (s numbers key : List ℕ) (limit : ℕ) → LookupNumbered s nu
 
 unfoldable pub ValuesNumbered : Type 0
 ValuesNumbered = («data» : List ℕ) (offset len : ℕ) → ValueNumbered «data» offset len
+
+unfoldable pub AddsNumbered : Type 0
+AddsNumbered = (area numbers : List ℕ) (e : Offer) → AddNumbered area numbers e
+
+unfoldable pub SizesNumbered : Type 0
+SizesNumbered = (numbers : List ℕ) (prefix : ℕ) → SizeNumbered numbers prefix
+
+unfoldable pub WritesNumbered : Type 0
+WritesNumbered = (area numbers : List ℕ) (prefix room64 room32 room : ℕ) → WriteNumbered area numbers prefix room64 room32 room

@@ -1,0 +1,6 @@
+pub mod Answers
+pub mod Adds
+pub mod Writes
+pub mod Opens
+pub mod Written
+pub mod NoRecord

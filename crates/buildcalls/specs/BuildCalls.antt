@@ -1,0 +1,237 @@
+-- The demands on building, said of the entries that are called (include/kiban.h): a list of `kiban_add` calls from sixteen zeros on, then
+-- `kiban_size` and `kiban_write`, then the openings and lookups of crates/calls. A call is what its entry was lent, its result and what it left, in
+-- the words of its contract (crates/kiban/src/lib.rt).
+use mathlib.Core.Path.{_≡_}
+use mathlib.Core.List.{List, [], _∷_, _++_, List·Memᴰ}
+use Prim.Native.Nat.{ℕ, _^_, _<_, _≤_}
+use lib.Dec.{eqb}
+use lib.ListN.{length, take, drop}
+use Rattle.num.specs.Answer.{Answer}
+use Rattle.num.specs.Choice.{if_then_else_}
+use Rattle.num.specs.Number.{Bytes}
+use Rattle.builder.specs.Offer.{Offer}
+use Rattle.builder.specs.Record.{sizeOfSection, sizedRead, sizedNumber}
+use Rattle.builder.specs.Add.{BuilderState, addOf, addedRead, addedNumber, addedArea}
+use Rattle.writer.specs.Write.{writeOf, sectionWritten}
+use Rattle.writing.specs.Wrote.{wroteRead, wroteNumber}
+use Rattle.building.specs.Taken.{groupsOf, areaOf, groupTotals, builderOf}
+use Rattle.building.specs.InOrder.{InOrder, HoldsJust, ScratchHolds, SameAdded}
+use Rattle.building.specs.Builds.{sizeFor, Outcome}
+use Rattle.numbers.specs.BuilderNumbers.{builderIn}
+use Rattle.kiban.specs.Built.{offerFrom, builderWritten, sizeWritten, sectionLenWritten}
+use Rattle.calls.specs.Calls.{place, Lent, OpenCall, PackCall, Linker, openedPlain, openedPacked, holding, blocksHeld, LookupCall, LinkedAlike, packedSize}
+
+-- ---- calls
+
+-- what `kiban_add` is lent and given
+pub record AddLent : Type 0 where
+  pub area : List ℕ
+  pub numbers : List ℕ
+  pub sixteen : length numbers ≡ 16
+  pub tombstone : ℕ
+  pub key : List ℕ
+  pub value : List ℕ
+  pub seq : ℕ
+  pub seq-fits : seq < 2 ^ 64
+  pub new-key : ℕ
+  pub offset : ℕ
+  pub offset-fits : offset < 2 ^ 64
+
+-- the entry that it offers
+unfoldable pub offered : AddLent → Offer
+offered lent = offerFrom (lent .tombstone) (lent .key) (lent .value) (lent .seq) (lent .new-key) (lent .offset)
+
+abbrev pub adds : AddLent → Answer BuilderState
+adds lent = addOf (lent .area) (builderIn (lent .numbers)) (offered lent)
+
+-- a call of `kiban_add`
+pub record AddCall : Type 0 where
+  pub lent : AddLent
+  pub result : ℕ
+  pub area : List ℕ
+  pub numbers : List ℕ
+  pub returns : result ≡ addedNumber (addedRead (adds lent))
+  pub leaves-area : area ≡ addedArea (adds lent) (lent .area)
+  pub leaves : numbers ≡ builderWritten (adds lent) (lent .numbers)
+
+-- a call of `kiban_size`, with any number in its place before
+pub record SizeCall : Type 0 where
+  pub numbers : List ℕ
+  pub prefix : ℕ
+  pub before : ℕ
+  pub result : ℕ
+  pub after : ℕ
+  pub returns : result ≡ sizedNumber (sizedRead (sizeOfSection (builderIn numbers) prefix))
+  pub leaves : after ≡ sizeWritten (sizeOfSection (builderIn numbers) prefix) before
+
+-- what `kiban_write` is lent: of both scratches their lengths alone matter
+pub record WriteLent : Type 0 where
+  pub area : List ℕ
+  pub numbers : List ℕ
+  pub prefix : ℕ
+  pub room64 : ℕ
+  pub room32 : ℕ
+  pub output : List ℕ
+  pub len : ℕ
+
+abbrev pub writes : WriteLent → Answer (List ℕ)
+writes lent = writeOf (lent .area) (builderIn (lent .numbers)) (lent .prefix) (lent .room64) (lent .room32) (length (lent .output))
+
+-- a call of `kiban_write`
+pub record WriteCall : Type 0 where
+  pub lent : WriteLent
+  pub result : ℕ
+  pub output : List ℕ
+  pub len : ℕ
+  pub returns : result ≡ wroteNumber (wroteRead (writes lent))
+  pub leaves-output : output ≡ sectionWritten (writes lent) (lent .output)
+  pub leaves-len : len ≡ sectionLenWritten (writes lent) (lent .len)
+
+-- ---- a list of adds
+
+-- what one call hands on to the next: the sixteen numbers, and the used bytes of the area
+pub record Memory : Type 0 where
+  pub numbers : List ℕ
+  pub used : List ℕ
+
+-- before the first call: sixteen zeros, and nothing used
+unfoldable pub noEntries : Memory
+noEntries = record { numbers = 0 ∷ 0 ∷ 0 ∷ 0 ∷ 0 ∷ 0 ∷ 0 ∷ 0 ∷ 0 ∷ 0 ∷ 0 ∷ 0 ∷ 0 ∷ 0 ∷ 0 ∷ 0 ∷ []; used = [] }
+
+-- numbers and an area as left: the used bytes, and behind them any bytes, as many as there are
+pub record AsLeft (m : Memory) (numbers area : List ℕ) : Type 0 where
+  pub same : numbers ≡ m .numbers
+  pub rest : List ℕ
+  pub begins : area ≡ m .used ++ rest
+
+-- what a call leaves: place 3 counts the used bytes
+unfoldable pub leftBy : AddCall → Memory
+leftBy c = record { numbers = c .numbers; used = take (place (c .numbers) 3) (c .area) }
+
+-- the entries taken are those of the calls that returned 0
+unfoldable pub takenWith : List Offer → AddCall → List Offer
+takenWith taken c = if eqb (c .result) 0 then taken ++ (offered (c .lent) ∷ []) else taken
+
+-- calls of `kiban_add` one behind the other, each lent what the one before left; the memory that they leave, and the entries taken
+pub data AddCalls : Memory → List Offer → Type 0 where
+  none : AddCalls noEntries []
+  next : (m : Memory) (taken : List Offer) → AddCalls m taken → (c : AddCall) → AsLeft m (c .lent .numbers) (c .lent .area)
+      → AddCalls (leftBy c) (takenWith taken c)
+
+-- the sixteen numbers of the entries taken
+unfoldable pub numbersFor : List Offer → List ℕ
+numbersFor taken =
+    let t = groupTotals (groupsOf taken) in
+    t .keys ∷ t .versions ∷ t .«suffix_bytes» ∷ length (areaOf (groupsOf taken)) ∷ t .«min_seq» ∷ t .«max_seq»
+    ∷ t .«max_key_len» ∷ t .«max_value_len» ∷ t .«max_versions» ∷ t .«last_value_offset»
+    ∷ builderOf (groupsOf taken) .«last_key» ∷ builderOf (groupsOf taken) .anchor ∷ 0 ∷ 0 ∷ 0 ∷ 0 ∷ []
+
+-- what stands behind a list of adds, and that no further call of it, whatever it is given, is refused with 37; the size told is the one that
+-- writing asks for (39)
+pub record Kept (m : Memory) (taken : List Offer) : Type 0 where
+  pub numbers : m .numbers ≡ numbersFor taken
+  pub used : m .used ≡ areaOf (groupsOf taken)
+  pub adding : (c : AddCall) → AsLeft m (c .lent .numbers) (c .lent .area) → c .result ≡ 37 → ⊥
+  pub sizing : (c : SizeCall) → c .numbers ≡ m .numbers → (c .result ≡ 0) × (c .after ≡ sizeFor taken (c .prefix))
+  pub writing : (c : WriteCall) → AsLeft m (c .lent .numbers) (c .lent .area) → c .result ≡ 37 → ⊥
+
+unfoldable pub AddsKeep : Type 0
+AddsKeep = (m : Memory) (taken : List Offer) → AddCalls m taken → Kept m taken
+
+-- ---- writing
+
+-- a call of `kiban_write` behind a list of adds has one of the outcomes of `Outcome`, each in its case alone, and returns and leaves what it says
+pub record Wrote (taken : List Offer) (c : WriteCall) : Type 0 where
+  pub answer : Answer (List ℕ)
+  pub outcome : Outcome taken (c .lent .prefix) (c .lent .room64) (c .lent .room32) (length (c .lent .output)) answer
+  pub result : c .result ≡ wroteNumber (wroteRead answer)
+  pub output : c .output ≡ sectionWritten answer (c .lent .output)
+  pub len : c .len ≡ sectionLenWritten answer (c .lent .len)
+
+unfoldable pub WriteCalls : Type 0
+WriteCalls =
+    (m : Memory) (taken : List Offer) → AddCalls m taken → (c : WriteCall) → AsLeft m (c .lent .numbers) (c .lent .area) → Wrote taken c
+
+-- a section that was built: a list of adds, and a call of `kiban_write` behind it that returned 0; the first `*len` bytes of its output
+pub record Built (taken : List Offer) (prefix : ℕ) (s : List ℕ) : Type 0 where
+  pub memory : Memory
+  pub entries : AddCalls memory taken
+  pub call : WriteCall
+  pub left : AsLeft memory (call .lent .numbers) (call .lent .area)
+  pub same-prefix : call .lent .prefix ≡ prefix
+  pub zero : call .result ≡ 0
+  pub bytes : s ≡ take (call .len) (call .output)
+
+-- `kiban_size` tells its length
+unfoldable pub SizeCalls : Type 0
+SizeCalls =
+    (taken : List Offer) (prefix : ℕ) (s : List ℕ) (b : Built taken prefix s) (c : SizeCall) → c .numbers ≡ b .memory .numbers → c .prefix ≡ prefix
+    → c .after ≡ length s
+
+-- promise P8 at the entries: whoever took the same entries and writes with the same prefix writes the same bytes, whatever was refused in between,
+-- and whatever areas, scratches and outputs the calls were lent
+unfoldable pub SameSectionCalls : Type 0
+SameSectionCalls = (taken : List Offer) (prefix : ℕ) (s t : List ℕ) → Built taken prefix s → Built taken prefix t → s ≡ t
+
+-- ---- opening and linking what was built
+
+-- a section that was built from entries in order, beside data and blocks that hold just those records
+pub record BuiltBeside (taken : List Offer) (prefix : ℕ) (s «data» blocks : List ℕ) : Type 0 where
+  pub built : Built taken prefix s
+  pub order : InOrder taken
+  pub holds : HoldsJust «data» blocks taken
+
+-- an opening is lent these
+pub record LentThese (s «data» blocks : List ℕ) (lent : Lent) : Type 0 where
+  pub same-section : lent .section ≡ s
+  pub same-backing : lent .backing ≡ «data»
+  pub same-blocks : lent .blocks ≡ blocks
+
+-- promise P4 at the entries: both openings return 0, with a key scratch that holds every key twice and an output that holds the packed bytes
+pub record OpensBuilt (taken : List Offer) (s «data» blocks : List ℕ) : Type 0 where
+  pub plain : (c : OpenCall) → LentThese s «data» blocks (c .lent) → ScratchHolds (c .lent .scratch) taken → c .result ≡ 0
+  pub packed : (c : PackCall) → LentThese s «data» blocks (c .lent) → ScratchHolds (c .lent .scratch) taken → packedSize s ≤ length (c .output)
+      → c .result ≡ 0
+
+unfoldable pub BuildCalls : Type 0
+BuildCalls = (taken : List Offer) (prefix : ℕ) (s «data» blocks : List ℕ) → BuiltBeside taken prefix s «data» blocks → OpensBuilt taken s «data» blocks
+
+-- what a linker's opening was lent
+unfoldable pub lentTo : Linker → Lent
+lentTo (openedPlain c zero) = c .lent
+lentTo (openedPacked c zero) = c .lent
+
+-- promise P6 at the entries: a linker that opened what was built, plain or packed, links, of every key under every limit, as any linker whose store
+-- holds the versions that were added
+unfoldable pub BuiltLinkerCalls : Type 0
+BuiltLinkerCalls =
+    (taken : List Offer) (prefix : ℕ) (s «data» blocks : List ℕ) → BuiltBeside taken prefix s «data» blocks
+    → (a : Linker) → LentThese s «data» blocks (lentTo a) → (b : Linker) (key : List ℕ) (limit : ℕ) → SameAdded taken (blocksHeld (holding b)) key limit
+    → (c : LookupCall (holding a) key limit) (d : LookupCall (holding b) key limit) → LinkedAlike (holding a) (holding b) key limit c d
+
+-- ---- what is written
+
+-- a call whose result is not 0 writes nothing
+pub record BuildRefusalsWriteNothing : Type 0 where
+  pub adding : (c : AddCall) → (c .result ≡ 0 → ⊥) → (c .area ≡ c .lent .area) × (c .numbers ≡ c .lent .numbers)
+  pub sizing : (c : SizeCall) → (c .result ≡ 0 → ⊥) → c .after ≡ c .before
+  pub writing : (c : WriteCall) → (c .result ≡ 0 → ⊥) → (c .output ≡ c .lent .output) × (c .len ≡ c .lent .len)
+
+-- behind what is written the lent memory keeps what it held
+pub record BehindKept : Type 0 where
+  pub adding : (c : AddCall) → c .result ≡ 0
+      → (place (c .numbers) 3 ≤ length (c .lent .area)) × (drop (place (c .numbers) 3) (c .area) ≡ drop (place (c .numbers) 3) (c .lent .area))
+  pub writing : (c : WriteCall) → Bytes (c .lent .area) → c .result ≡ 0
+      → (c .len ≤ length (c .lent .output)) × (drop (c .len) (c .output) ≡ drop (c .len) (c .lent .output))
+
+-- ---- question 37 of sixteen numbers
+
+-- a number that is not 0 in one of the last four places: no record that `kiban_add` wrote
+unfoldable pub NoRecord : List ℕ → Type 0
+NoRecord numbers = (i : ℕ) × ((12 ≤ i) × ((i < 16) × (place numbers i ≡ 0 → ⊥)))
+
+-- it is refused with 37, or with a question that goes before
+pub record NoRecordCalls : Type 0 where
+  pub adding : (c : AddCall) → NoRecord (c .lent .numbers) → List·Memᴰ (c .result) (30 ∷ 31 ∷ 32 ∷ 33 ∷ 37 ∷ [])
+  pub sizing : (c : SizeCall) → NoRecord (c .numbers) → c .result ≡ 37
+  pub writing : (c : WriteCall) → NoRecord (c .lent .numbers) → List·Memᴰ (c .result) (35 ∷ 36 ∷ 37 ∷ [])
