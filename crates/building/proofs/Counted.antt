@@ -15,8 +15,7 @@ use Rattle.encoding.specs.Encoding.{group}
 use Rattle.area.specs.Area.{areaKey}
 use Rattle.builder.specs.Record.{emptyBuilder, anchorNext, sharedWith, totalsAfter, builderAfter}
 use Rattle.builder.proofs.Standing.{some-key}
-use Rattle.written.specs.Arena.{StoredVersion, KeyGroup, groupKey, groupAnchor, groupShared, groupSuffix}
-use Rattle.written.specs.Internal.{suffixesBefore}
+use Rattle.written.specs.Arena.{StoredVersion, KeyGroup, groupKey, groupAnchor, groupShared, groupSuffix, suffixesBefore}
 use Rattle.building.specs.Taken.{newGroup, moreGroup, areaOf, headPlace, versionsOf, greatestOf, leastOf, lastOf, groupTotals, builderOf, taken-defs}
 use Rattle.building.specs.Internal.{countedAs}
 use Rattle.building.proofs.Lists.{length-more, greatest-more, least-more, last-more}

@@ -12,9 +12,9 @@ use Rattle.num.specs.Number.{leBytes}
 use Rattle.num.specs.Order.{commonPrefixLen}
 use Rattle.num.proofs.Number.{length-leBytes}
 use Rattle.encoding.specs.Encoding.{group}
-use Rattle.written.specs.Arena.{StoredVersion, KeyGroup, noGroup, groupKey, groupVersions, groupAnchor, groupShared, groupSuffix}
+use Rattle.written.specs.Arena.{StoredVersion, KeyGroup, noGroup, groupKey, groupVersions, groupAnchor, groupShared, groupSuffix, suffixesBefore}
 use Rattle.written.specs.Joined.{fieldsBytes}
-use Rattle.written.specs.Internal.{versionsBefore, suffixesBefore}
+use Rattle.written.specs.Internal.{versionsBefore}
 use Rattle.written.proofs.Stands.{fields-length}
 use Rattle.building.specs.Taken.{newGroup, moreGroup, areaFields, areaOfVersions, areaOfGroup, areaOf, headPlace, versionsOf}
 use Rattle.building.proofs.Lists.{length-more}

@@ -14,8 +14,8 @@ use Rattle.sstable.specs.Limits.{limit-defs}
 use Rattle.area.specs.Area.{areaKeyLen, areaVersions}
 use Rattle.builder.specs.Record.{totalsSmall, keyLies, standing, sizeable}
 use Rattle.builder.proofs.Standing.{Small}
-use Rattle.written.specs.Arena.{StoredVersion, KeyGroup, noStored, noGroup, groupKey, groupAnchor, groupShared, groupSuffix}
-use Rattle.written.specs.Internal.{Stands, suffixesBefore}
+use Rattle.written.specs.Arena.{StoredVersion, KeyGroup, noStored, noGroup, groupKey, groupAnchor, groupShared, groupSuffix, suffixesBefore}
+use Rattle.written.specs.Internal.{Stands}
 use Rattle.building.specs.Taken.{areaOfGroup, areaOf, headPlace, versionsOf, greatestOf, leastOf, groupTotals, builderOf}
 use Rattle.building.specs.Internal.{Sound}
 use Rattle.building.proofs.Lists.{grown, either-part, greatest-each, greatest-below, least-each}

@@ -9,10 +9,9 @@ use Rattle.sstable.specs.Kind.{kindNumber}
 use Rattle.encoding.specs.declared.Totals.{Totals}
 use Rattle.builder.specs.declared.Builder.{Builder}
 use Rattle.builder.specs.Offer.{Offer}
-use Rattle.written.specs.Arena.{StoredVersion, KeyGroup, noGroup, groupAnchor}
+use Rattle.written.specs.Arena.{StoredVersion, KeyGroup, noGroup, groupAnchor, suffixesBefore}
 use Rattle.written.specs.Joined.{Field, fieldsBytes}
 use Rattle.written.specs.Joined.Field.{field}
-use Rattle.written.specs.Internal.{suffixesBefore}
 
 -- ---- the key groups
 

@@ -15,8 +15,8 @@ use Rattle.builder.specs.declared.Builder.{Builder}
 use Rattle.builder.proofs.Standing.{sizeable-bounded}
 use Rattle.readback.specs.Places.{areaVersionAt, headAt}
 use Rattle.readback.proofs.Reading.{read-back}
-use Rattle.written.specs.Arena.{StoredVersion, groupVersions, groupVersion}
-use Rattle.written.specs.Internal.{versionsBefore, suffixesBefore, Measured}
+use Rattle.written.specs.Arena.{StoredVersion, groupVersions, groupVersion, suffixesBefore}
+use Rattle.written.specs.Internal.{versionsBefore, Measured}
 use Rattle.written.proofs.Totals.{totals-fit, section-size}
 use Rattle.writer.specs.Write.{storedAt, groupsIn}
 use Rattle.measuring.specs.Measured.{AreaMeasured, ReadBackMeasured}

@@ -26,8 +26,8 @@ use Rattle.readback.specs.ReadBack.{countedAt, versionRead, versionsRead, keyRe
 use Rattle.readback.specs.Places.{areaVersionAt, headAt}
 use Rattle.readback.specs.Internal.{Running}
 use Rattle.readback.proofs.Reading.{version-stands, length-key, follows, first-more, key-parts, key-stands, empty-running, keys-kept}
-use Rattle.written.specs.Arena.{groupKey, groupAnchor, groupShared, groupSuffix}
-use Rattle.written.specs.Internal.{versionsBefore, suffixesBefore}
+use Rattle.written.specs.Arena.{groupKey, groupAnchor, groupShared, groupSuffix, suffixesBefore}
+use Rattle.written.specs.Internal.{versionsBefore}
 use Rattle.writer.specs.Write.{groupsIn}
 use Rattle.measuring.specs.Internal.{VersionWithin, KeyWithin, Wider, Whole, KeysMeasured}
 use Rattle.measuring.proofs.Totals.{wider-same, wider-then, version-wider, key-wider, after-wider, after-within, after-whole}

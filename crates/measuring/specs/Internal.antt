@@ -11,8 +11,8 @@ use Rattle.area.specs.Area.{areaVersions, areaKey, areaSize, areaOffset}
 use Rattle.builder.specs.declared.Builder.{Builder}
 use Rattle.builder.specs.Add.{maxKeys}
 use Rattle.readback.specs.Places.{areaVersionAt, headAt}
-use Rattle.written.specs.Arena.{groupAnchor}
-use Rattle.written.specs.Internal.{versionsBefore, suffixesBefore}
+use Rattle.written.specs.Arena.{groupAnchor, suffixesBefore}
+use Rattle.written.specs.Internal.{versionsBefore}
 use Rattle.writer.specs.Write.{groupsIn}
 
 -- the version at a place is counted, and the bounds of the totals hold it

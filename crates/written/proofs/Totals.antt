@@ -17,9 +17,9 @@ use Rattle.encoding.specs.declared.Encoding.{Encoding}
 use Rattle.encoding.specs.Encoding.{keyHeaderLenOf, versionLenOf, arenaLenOf, encodingOf, scanHeaderLen, arenaStartOf, scanLenOf, sectionLenOf}
 use Rattle.encoding.proofs.Widths.{encodingOf-widths, key-fits, count-fits, seq-fits, offset-fits, value-below-tombstone}
 use Rattle.encoding.proofs.Lengths.{address-fits}
-use Rattle.written.specs.Arena.{KeyGroup, groupKey, groupVersions, groupVersion, groupAddress, GroupsFit}
+use Rattle.written.specs.Arena.{KeyGroup, groupKey, groupVersions, groupVersion, groupAddress, GroupsFit, suffixesBefore}
 use Rattle.written.specs.Section.{sectionBytes}
-use Rattle.written.specs.Internal.{scanLenFor, versionsBefore, suffixesBefore, Measured}
+use Rattle.written.specs.Internal.{scanLenFor, versionsBefore, Measured}
 use Rattle.written.proofs.Section.{section-length}
 
 -- the writer's address of key n by counts

@@ -31,10 +31,10 @@ use Rattle.admission.proofs.Opening.{open-exactly}
 use Rattle.worked.specs.Worked.{worked-defs, ab, ac, workedData, workedList, workedSection, workedScanSection, workedOpened}
 use Rattle.worked.proofs.Openings.{opened}
 use Rattle.written.specs.Joined.{joined-defs}
-use Rattle.written.specs.Arena.{KeyGroup, groupKey, groupVersions, groupVersion, groupSuffix, GroupsFit, arena-written-defs}
+use Rattle.written.specs.Arena.{KeyGroup, groupKey, groupVersions, groupVersion, groupSuffix, GroupsFit, arena-written-defs, suffixesBefore}
 use Rattle.written.specs.Section.{sectionBytes, writtenRecord, section-defs}
 use Rattle.written.specs.Opens.{GroupsInOrder, groupSlot, SlotsOwned, Writable, Packable, groupEntry, entriesOfGroups, BesideGroups, OpensAs, PacksAs, WrittenOpens, opens-defs}
-use Rattle.written.specs.Internal.{versionsBefore, suffixesBefore, Measured}
+use Rattle.written.specs.Internal.{versionsBefore, Measured}
 use Rattle.written.proofs.Totals.{totals-fit}
 use Rattle.written.proofs.Opens.{written-opens}
 

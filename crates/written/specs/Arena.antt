@@ -58,6 +58,11 @@ groupShared gs i = if eqb (i % group) 0 then 0 else commonPrefixLen (groupKey gs
 unfoldable pub groupSuffix : List KeyGroup → ℕ → List ℕ
 groupSuffix gs i = drop (groupShared gs i) (groupKey gs i)
 
+-- the suffix bytes of the keys before key i
+unfoldable pub suffixesBefore : List KeyGroup → ℕ → ℕ
+suffixesBefore gs zero = 0
+suffixesBefore gs (suc i) = suffixesBefore gs i + length (groupSuffix gs i)
+
 -- the address of key i: each key record is a key header, a suffix and the versions
 unfoldable pub groupAddress : Encoding → List KeyGroup → ℕ → ℕ
 groupAddress e gs zero = 0

@@ -11,7 +11,7 @@ use Rattle.header.specs.declared.Opened.{Opened}
 use Rattle.sstable.specs.Limits.{maxValueBytes}
 use Rattle.written.specs.Joined.{Field, fieldsBytes}
 use Rattle.written.specs.Joined.Field.{field}
-use Rattle.written.specs.Arena.{KeyGroup, groupKey, groupVersions, groupVersion, groupSuffix, arenaWritten}
+use Rattle.written.specs.Arena.{KeyGroup, groupKey, groupVersions, groupVersion, arenaWritten, suffixesBefore}
 use Rattle.written.specs.Section.{pilotsBytes, slotsBytes, scanFields, scanAddresses}
 
 -- a part stands at a place of a list, before some rest
@@ -59,11 +59,6 @@ scanLenFor e gs (suc p) = scanHeaderLen + length gs * e .address + 8
 unfoldable pub versionsBefore : List KeyGroup → ℕ → ℕ
 versionsBefore gs zero = 0
 versionsBefore gs (suc i) = versionsBefore gs i + length (groupVersions gs i)
-
--- the suffix bytes of the keys before key i
-unfoldable pub suffixesBefore : List KeyGroup → ℕ → ℕ
-suffixesBefore gs zero = 0
-suffixesBefore gs (suc i) = suffixesBefore gs i + length (groupSuffix gs i)
 
 -- totals that a builder has counted of these groups
 pub record Measured (t : Totals) (gs : List KeyGroup) : Type 0 where
