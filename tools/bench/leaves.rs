@@ -13,7 +13,7 @@ fn size(bytes: usize) -> String {
     }
 }
 
-const SIZES: [usize; 5] = [8, 16, 64, 1024, 1 << 20];
+const SIZES: [usize; 7] = [8, 16, 32, 64, 256, 1024, 1 << 20];
 
 fn rust_crc(data: Vec<u8>) -> crate::measure::Work {
     use oracle::crc32::{INITIAL, access::update_scalar, finalize};

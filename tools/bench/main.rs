@@ -11,6 +11,8 @@ mod ours;
 #[path = "../common/rng.rs"]
 mod rng;
 
+#[cfg(has = "kiban_write")]
+mod building;
 #[cfg(has = "probe_construct")]
 mod construct;
 mod leaves;
@@ -57,7 +59,7 @@ fn main() {
         "kiban_open_packed": stores::opening_packed;
         "kiban_lookup": stores::lookups;
         "probe_construct": construct::rows;
-        "kiban_write": stores::building;
+        "kiban_write": building::rows;
     };
     println!("{rounds} interleaved rounds, medians, per call or per record");
     measure::measure(rows, rounds);

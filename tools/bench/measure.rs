@@ -1,9 +1,9 @@
 //! Interleaved runs of both sides, and their medians.
 use std::hint::black_box;
-use std::time::Instant;
+use std::time::Duration;
 
-/// One side of a row: does its work this many times, and gives a number so that nothing is dropped.
-pub type Work = Box<dyn FnMut(usize) -> u64>;
+/// One side of a row: does its work this many times, and gives a number so that nothing is dropped, and the time that it took.
+pub type Work = Box<dyn FnMut(usize) -> (u64, Duration)>;
 
 pub struct Row {
     pub name: String,
@@ -15,9 +15,39 @@ pub struct Row {
     pub limit: Option<f64>,
 }
 
+mod c {
+    #[repr(C)]
+    pub struct Time {
+        pub seconds: i64,
+        pub nanos: i64,
+    }
+    pub const THREAD_CPUTIME: i32 = 3;
+    unsafe extern "C" {
+        pub fn clock_gettime(clock: i32, time: *mut Time) -> i32;
+    }
+}
+
+/// The processor time of this thread (Linux), which other programs on the machine do not lengthen.
+fn now() -> Duration {
+    let mut time = c::Time { seconds: 0, nanos: 0 };
+    // SAFETY: `time` has the layout of C's `timespec`.
+    assert_eq!(unsafe { c::clock_gettime(c::THREAD_CPUTIME, &mut time) }, 0);
+    Duration::new(time.seconds as u64, time.nanos as u32)
+}
+
 /// The work of asking `ask` again and again.
 pub fn repeated(mut ask: impl FnMut() -> u64 + 'static) -> Work {
-    Box::new(move |times| (0..times).fold(0, |sum, _| sum ^ ask()))
+    prepared(|| (), move |()| ask())
+}
+
+/// The same with something that is made for each call, which takes no part in the time.
+pub fn prepared<T: 'static>(mut make: impl FnMut() -> T + 'static, mut ask: impl FnMut(T) -> u64 + 'static) -> Work {
+    Box::new(move |times| {
+        let made: Vec<T> = (0..times).map(|_| make()).collect();
+        let start = now();
+        let sum = made.into_iter().fold(0, |sum, made| sum ^ ask(made));
+        (black_box(sum), now() - start)
+    })
 }
 
 pub fn row(name: String, units: usize, limit: Option<f64>, ours: Work, rust: Work) -> Row {
@@ -38,9 +68,7 @@ const BATCH_NS: f64 = 300_000.0;
 const LONG_NS: f64 = 50_000_000.0;
 
 fn time(work: &mut Work, times: usize) -> f64 {
-    let start = Instant::now();
-    black_box(work(times));
-    start.elapsed().as_nanos() as f64 / times as f64
+    work(times).1.as_nanos() as f64 / times as f64
 }
 
 /// So many pieces of work that a batch takes about `BATCH_NS`, and how many rounds go by for one measurement.
@@ -71,7 +99,7 @@ struct Times {
 /// both sides must give the same number.
 pub fn measure(mut rows: Vec<Row>, rounds: usize) {
     let prepare = |row: &mut Row| {
-        assert_eq!((row.ours)(1), (row.rust)(1), "{}: both sides give the same", row.name);
+        assert_eq!((row.ours)(1).0, (row.rust)(1).0, "{}: both sides give the same", row.name);
         let (batch, every) = batch(&mut row.rust);
         Times { batch, every, ours: Vec::new(), rust: Vec::new() }
     };
@@ -87,19 +115,21 @@ pub fn measure(mut rows: Vec<Row>, rounds: usize) {
             }
         }
     }
-    println!("| row | ours, ns | Rust, ns | ratio | at most |");
-    println!("|---|---:|---:|---:|---:|");
+    println!("| row | ours, ns | Rust, ns | ratio | of rounds | at most |");
+    println!("|---|---:|---:|---:|---:|---:|");
     rows.iter().zip(&mut all).for_each(|(row, times)| print(row, times));
 }
 
+/// The ratio of the two medians, and the median of the rounds' ratios.
 fn print(row: &Row, times: &mut Times) {
     let units = row.units as f64;
+    let mut ratios: Vec<f64> = times.ours.iter().zip(&times.rust).map(|(ours, rust)| ours / rust).collect();
     let (ours, rust) = (median(&mut times.ours) / units, median(&mut times.rust) / units);
-    let ratio = ours / rust;
+    let (ratio, rounds) = (ours / rust, median(&mut ratios));
     let limit = match row.limit {
-        Some(limit) if ratio > limit => format!("{limit:.1}, not reached"),
-        Some(limit) => format!("{limit:.1}"),
+        Some(limit) if ratio > limit => format!("{limit:.2}, not reached"),
+        Some(limit) => format!("{limit:.2}"),
         None => String::new(),
     };
-    println!("| {} | {ours:.1} | {rust:.1} | {ratio:.2} | {limit} |", row.name);
+    println!("| {} | {ours:.1} | {rust:.1} | {ratio:.2} | {rounds:.2} | {limit} |", row.name);
 }

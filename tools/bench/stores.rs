@@ -1,8 +1,8 @@
-//! Opening, lookup and building on stores of 20-byte keys with one version each and 32-byte values; lookup of 16-byte keys too,
+//! Opening and lookup on stores of 20-byte keys with one version each and 32-byte values; lookup of 16-byte keys too,
 //! whose hash has no last odd bytes.
 use crate::blocks::{Entry, block};
 use crate::measure::{Row, Work, repeated, row, thousands};
-use crate::ours::{self, Offered, Record, Scratch};
+use crate::ours::{self, Record};
 use crate::rng::Rng;
 use oracle::compact::{Index, open, open_packed, open_packed_shared, open_shared};
 use oracle_stable::point::Builder;
@@ -12,7 +12,6 @@ use std::sync::Arc;
 
 /// A store whose parts stay in the nearest caches, and one whose parts do not.
 const SIZES: [usize; 2] = [1_000, 100_000];
-const BUILT: usize = 10_000;
 const KEY: usize = 20;
 const WHOLE_KEY: usize = 16;
 const VALUE: usize = 32;
@@ -210,24 +209,4 @@ pub fn lookups(rng: &mut Rng) -> Vec<Row> {
         .chain([(SIZES[0], WHOLE_KEY)])
         .flat_map(|(count, key)| lookup_rows(rng, count, key))
         .collect()
-}
-
-#[cfg(has = "kiban_write")]
-pub fn building(rng: &mut Rng) -> Vec<Row> {
-    let store = Store::new(rng, BUILT, KEY);
-    let s = store.clone();
-    let (mut area, mut output) = (vec![0; BUILT * (8 + KEY + 25)], vec![0; s.section.len()]);
-    let mut scratch = Scratch { words: vec![0; BUILT], halves: vec![0; 6 * BUILT + 8] };
-    let ours = repeated(move || {
-        let (mut record, mut length) = ([0; 16], 0);
-        for (e, &offset) in black_box(&s.entries).iter().zip(&s.offsets) {
-            let (key, value, sequence) = (&e.key[..], &e.value[..], e.sequence);
-            let offered = Offered { tombstone: false, key, value, sequence, new: true, offset };
-            assert_eq!(ours::add(&mut area, &mut record, offered), 0);
-        }
-        assert_eq!(ours::write(&area, &record, 0, &mut scratch, &mut output, &mut length), 0);
-        length
-    });
-    let rust = repeated(move || rust_build(black_box(&store.entries), &store.offsets).len() as u64);
-    vec![per_unit(format!("building, {} keys, per record", thousands(BUILT)), BUILT, ours, rust)]
 }

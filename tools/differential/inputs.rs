@@ -10,11 +10,11 @@ pub fn tiny(mut each: impl FnMut(&[u8])) {
     (0..=u16::MAX).for_each(|ab| each(&ab.to_le_bytes()));
 }
 
-/// All tiny strings, and each length below 200 at each distance from an aligned place.
+/// All tiny strings, and each length below 200, and about 448, at each distance from an aligned place.
 pub fn fixed_data(mut each: impl FnMut(&[u8], u64)) {
     tiny(|data| each(data, 0));
     each(b"123456789", 0);
-    for length in 0..200 {
+    for length in (0..200).chain(440..460) {
         let data: Vec<u8> = (0..length).map(|i| (i * 37 + length) as u8).collect();
         (0..8).for_each(|shift| each(&data, shift));
     }

@@ -1,7 +1,7 @@
 -- Stores one behind the other, and bytes copied one by one.
 -- Assumes nothing.
-use mathlib.Core.Path.{_≡_, refl, sym, ap, _∙_}
-use mathlib.Core.List.{List, [], _∷_, _++_}
+use mathlib.Core.Path.{_≡_, sym, ap, _∙_}
+use mathlib.Core.List.{List, _++_}
 use Prim.Native.Nat.{ℕ, suc, _+_, _<_, _≤_}
 use native.Mathlib.Omega.{arith}
 use lib.ListN.{length, getD, set, drop, drop-of-length-le}
@@ -9,11 +9,6 @@ use lib.Seq.{sets, drop-cons}
 use Rattle.num.specs.Number.{leBytes}
 use Rattle.num.proofs.Number.{length-leBytes}
 use Rattle.num.proofs.Lists.{sets-append}
-
--- a list of no elements
-pub empty : (l : List ℕ) → length l ≡ 0 → l ≡ []
-empty [] e = refl
-empty (x ∷ l) e = absurd (let z : _≡_ {A = ℕ} 0 1 = omega arith in omega arith)
 
 -- a turn of the loop that copies: what is left to store from there is what was left before
 pub copy-turn : (out src : List ℕ) (at i : ℕ) → i < length src → sets (set out (at + i) (getD src i 0)) (at + (i + 1)) (drop (i + 1) src) ≡ sets out (at + i) (drop i src)

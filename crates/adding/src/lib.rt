@@ -16,16 +16,6 @@ use builder::Added;
 use builder::Builder;
 use sstable::Kind;
 
-// The CRC-32 of a value; that of an empty one is 0, without the tables.
-fn checksum(value: &[u8]) -> u32
-    ensures { λ r. ⌜ r ≡ crcOf (now (value .entry)) ⌝ }
-{
-    if value.len() == 0 {
-        return 0;
-    }
-    crc32::crc32(value)
-}
-
 fn put_bytes(area: &mut [u8], at: usize, bytes: &[u8])
     requires { ⌜ at + length (now bytes) ≤ length (now area) ⌝ }
     ensures { λ r. ⌜ now (area .exit) ≡ sets (now (area .entry)) at (now (bytes .entry)) ⌝ }
@@ -55,7 +45,7 @@ fn put_version(area: &mut [u8], at: usize, kind: Kind, value: &[u8], seq: u64, o
     num::put_uint(area, at + 8, 1, kind.to_u8() as u64);
     num::put_uint(area, at + 9, 4, value.len() as u64);
     num::put_uint(area, at + 13, 8, offset);
-    num::put_uint(area, at + 21, 4, checksum(value) as u64);
+    num::put_uint(area, at + 21, 4, checksum::crc32(value) as u64);
 }
 
 // Writes an entry behind the used bytes; one that is not new is counted in the last key's head.

@@ -32,7 +32,7 @@ use writing::Wrote;
 pub extern "C" fn kiban_crc32(data: &[u8]) -> u32
     ensures { λ r. ⌜ r ≡ crcOf (now («data» .entry)) ⌝ }
 {
-    crc32::crc32(data)
+    checksum::crc32(data)
 }
 
 // Opens a section beside its backing data and its block list, and writes the opened record: 0, or the number of the first

@@ -38,8 +38,8 @@ put-uint-requires-4 c κs = search needs
 add-put-uint-4 : tie.Need-add-put-uint-4
 add-put-uint-4 c = search needs
 
-checksum-requires : tie.Need-checksum-requires
-checksum-requires c κs = search needs
+crc32-requires : tie.Need-crc32-requires
+crc32-requires c κs = search needs
 
 cast-put-uint-2 : tie.Need-cast-put-uint-2
 cast-put-uint-2 c = search needs
@@ -53,7 +53,7 @@ same-length c = search needs
 returns : tie.Need-returns
 returns c =
     let kind = c .before .before .before .before .before .before .before .before .before .before .before .before .before .before .before .put-uint2 .ensures ∙ ap (λ (n : ℕ). sets (c .before .before .before .before .before .before .before .before .before .before .before .before .before .before .before .before .before .before .before .before .put-uint .last .0) (c .before .before .before .before .before .before .before .before .before .before .before .before .before .before .before .before .before .before .before .before .before .before .before .before .args .at + 8) (leBytes 1 n)) (c .before .before .before .before .before .before .before .before .before .before .before .before .before .before .before .before .to-u8 .ensures) in
-    let crc = c .before .before .put-uint5 .ensures ∙ ap (λ (n : ℕ). sets (c .before .before .before .before .before .before .before .put-uint4 .last .0) (c .before .before .before .before .before .before .before .before .before .before .before .before .before .before .before .before .before .before .before .before .before .before .before .before .args .at + 21) (leBytes 4 n)) (c .before .before .before .checksum .ensures) in
+    let crc = c .before .before .put-uint5 .ensures ∙ ap (λ (n : ℕ). sets (c .before .before .before .before .before .before .before .put-uint4 .last .0) (c .before .before .before .before .before .before .before .before .before .before .before .before .before .before .before .before .before .before .before .before .before .before .before .before .args .at + 21) (leBytes 4 n)) (c .before .before .before .crc32 .ensures) in
     behind-number _ _ _ _ _ _ _ _ (omega arith) (c .before .before .before .before .before .before .before .before .before .before .before .before .before .before .before .before .before .before .before .before .put-uint .ensures)
     (behind-number _ _ _ _ _ _ _ _ (omega arith) kind
     (behind-number _ _ _ _ _ _ _ _ (omega arith) (c .before .before .before .before .before .before .before .before .before .before .before .put-uint3 .ensures)
@@ -73,7 +73,7 @@ put-version-spec =
     add-put-uint-3
     put-uint-requires-4
     add-put-uint-4
-    checksum-requires
+    crc32-requires
     cast-put-uint-2
     put-uint-requires-5
     same-length

@@ -102,6 +102,13 @@ impl Builder {
         Ok(())
     }
 
+    /// `add` of a Put with a new key, with nothing caught, for timing.
+    #[inline(never)]
+    pub fn add_plain(&mut self, key: &[u8], value: &[u8], sequence: u64, offset: u64) {
+        let patch = self.0.add(Kind::Put, key, value, sequence, true).expect("taken");
+        self.0.set_value_offset(patch, offset);
+    }
+
     pub fn size(&self) -> Result<usize, String> {
         caught_plain(|| self.0.approximate_size())
     }
