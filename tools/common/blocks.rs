@@ -1,4 +1,4 @@
-//! Blocks of chosen records and restart intervals.
+//! Entries, and blocks of chosen ones and restart intervals.
 
 /// Kind 1 is a Put, kind 2 a Tombstone.
 #[derive(Clone, Debug)]
@@ -7,6 +7,17 @@ pub struct Entry {
     pub key: Vec<u8>,
     pub value: Vec<u8>,
     pub sequence: u64,
+}
+
+/// What an add is given beside area and record.
+#[derive(Clone, Copy)]
+pub struct Offered<'a> {
+    pub tombstone: bool,
+    pub key: &'a [u8],
+    pub value: &'a [u8],
+    pub sequence: u64,
+    pub new: bool,
+    pub offset: u64,
 }
 
 fn common(a: &[u8], b: &[u8]) -> usize {

@@ -1,6 +1,6 @@
-//! What document 01 expects of the builder. Questions 31 to 34 and 37 are added to the Rust.
-use crate::numbers::number;
-use crate::ours::Offered;
+//! What document 01 expects of the builder. Questions 31 to 34 and 37 to 39 are added to the Rust.
+use crate::blocks::Offered;
+use crate::numbers::{NO_NUMBER, number};
 use oracle_stable::point::{Builder, Totals};
 
 /// Keys, versions, suffix bytes, used bytes, least and greatest sequence, longest key, longest value,
@@ -106,12 +106,29 @@ pub fn totals(record: &Record) -> Totals {
     }
 }
 
+/// The size by exact arithmetic.
+fn length(record: &Record, prefix: u64) -> u64 {
+    let [keys, versions, suffixes] = [0, 1, 2].map(|place: usize| record[place]);
+    let width = |max: u64| oracle::point::width(max) as u64;
+    let key_header = 2 * width(record[6]) + width(record[8]);
+    let version = width(record[5] - record[4]) + if record[7] < 1 << 15 { 2 } else { 4 } + 4;
+    let arena = |address: u64| keys * (address + key_header) + suffixes + versions * (address + version);
+    let address = if arena(4) > u32::MAX.into() || record[9] > u32::MAX.into() { 8 } else { 4 };
+    let scan = if prefix > 0 { 24 + keys * address + 8 } else { 0 };
+    64 + keys.div_ceil(2) * 4 + keys * (address + 2) + arena(address) + scan + 5
+}
+
+/// The Rust says the same, where it can be asked: it counts keys in a vector.
 pub fn size(record: &Record, prefix: u64) -> Result<u64, u64> {
     if !totals_fit(record) || record[5] < record[4] {
         return Err(37);
     }
-    let length = oracle_stable::point::section_len(&totals(record), prefix as usize);
-    length.map(|length| length as u64).map_err(|error| number(&error))
+    let length = length(record, prefix);
+    if record[0] <= 1 << 26 {
+        let rust = oracle_stable::point::section_len(&totals(record), prefix as usize);
+        return if rust == Ok(length as usize) { Ok(length) } else { Err(NO_NUMBER) };
+    }
+    Ok(length)
 }
 
 /// The used area in the Rust's form: its bytes, where keys begin, and the checksums beside.
@@ -189,7 +206,8 @@ pub fn write(area: &[u8], record: &Record, prefix: u64, scratch: [u64; 2], outpu
     }
     let Read { arena, heads, checksums, .. } = held;
     let builder = Builder::restored(arena, heads, checksums, &totals(record), prefix as usize);
-    builder.finish().map_err(|error| number(&error))
+    let section = builder.finish().map_err(|error| number(&error))?;
+    if section.len() as u64 == length { Ok(section) } else { Err(NO_NUMBER) }
 }
 
 /// The Rust's builder in the form of our area.

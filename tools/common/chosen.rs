@@ -11,6 +11,21 @@ pub fn seed(k: u64) -> u64 {
     mix(STEP.wrapping_mul(k))
 }
 
+const SEEDS: [&str; 8] = ["seed 1", "seed 2", "seed 3", "seed 4", "seed 5", "seed 6", "seed 7", "seed 8"];
+
+/// Which of the eight seeds it is, or nothing.
+pub fn seed_name(found: u64) -> &'static str {
+    let of_eight = SEEDS.into_iter().zip(1..).find(|&(_, k)| seed(k) == found);
+    of_eight.map_or("", |(name, _)| name)
+}
+
+/// Which of the eight seeds serves these keys, from 1 on, or 9 if none does.
+pub fn serving(keys: &[Vec<u8>]) -> u64 {
+    let parts: Vec<&[u8]> = keys.iter().map(Vec::as_slice).collect();
+    let found = oracle_stable::point::construct(&parts).map(|(found, ..)| found);
+    (1..9).find(|&k| found == Ok(seed(k))).unwrap_or(9)
+}
+
 /// The keys as the builder keeps them, each with so many versions; what those hold has no say.
 pub fn area<'a>(keys: impl IntoIterator<Item = (&'a [u8], u32)>) -> Vec<u8> {
     let mut area = Vec::new();
@@ -80,6 +95,17 @@ pub fn equal(rng: &mut Rng, seed: u64, count: usize) -> Keys {
 pub fn crowded(rng: &mut Rng, seed: u64, x: u64, count: usize, n: usize) -> Keys {
     let buckets = n.div_ceil(2) as u64;
     (0..count).map(|_| key(seed, &[], (rng.next() >> 1) / buckets * buckets + x)).collect()
+}
+
+/// Two keys of equal hashes under each seed before seed k.
+pub fn pairs(rng: &mut Rng, k: u64) -> Keys {
+    (1..k).flat_map(|before| equal(rng, seed(before), 2)).collect()
+}
+
+/// Keys of one bucket, so many that no pilot serves, under each seed before seed k.
+pub fn crowds(rng: &mut Rng, k: u64, size: usize) -> Keys {
+    let n = (k as usize - 1) * size;
+    (1..k).flat_map(|before| crowded(rng, seed(before), 0, size, n)).collect()
 }
 
 /// Keys that stand with others: alone in a bucket under the seed, at positions 0, 1 and so on by this pilot.

@@ -27,7 +27,7 @@ fn longest_key(entries: &[Entry]) -> usize {
 }
 
 /// The section that the Rust builds, with the stable sort or as published.
-fn built(entries: &[Entry], offsets: &[u64], prefix: usize, stable: bool) -> Option<Vec<u8>> {
+pub fn built(entries: &[Entry], offsets: &[u64], prefix: usize, stable: bool) -> Option<Vec<u8>> {
     macro_rules! build {
         ($point:path) => {{
             use $point as point;

@@ -117,6 +117,7 @@ mod c {
     }
 }
 
+pub use crate::blocks::Offered;
 pub use c::{Record, probe_bucket, probe_fingerprint, probe_position, probe_slot, probe_width};
 
 // In all calls below the pointers and lengths are those of live slices and references, and the library
@@ -270,35 +271,32 @@ pub fn span(section: &[u8], record: &Record, asked: [u64; 3], pairs: &mut [u64],
     unsafe { c::kiban_span(at, length, record, first, count, limit, pairs.as_mut_ptr(), places, found) }
 }
 
-/// What an add is given beside area and record.
-#[derive(Clone, Copy)]
-pub struct Offered<'a> {
-    pub tombstone: bool,
-    pub key: &'a [u8],
-    pub value: &'a [u8],
-    pub sequence: u64,
-    pub new: bool,
-    pub offset: u64,
-}
-
+/// An add. Numbers: tombstone, sequence, new, offset.
 #[inline(always)]
-pub fn add(area: &mut [u8], builder: &mut Record, offered: Offered) -> u64 {
+pub fn add_numbers(area: &mut [u8], builder: &mut Record, key: &[u8], value: &[u8], numbers: [u64; 4]) -> u64 {
+    let [tombstone, sequence, new, offset] = numbers;
     // SAFETY: as above.
     unsafe {
         c::kiban_add(
             area.as_mut_ptr(),
             area.len(),
             builder,
-            offered.tombstone.into(),
-            offered.key.as_ptr(),
-            offered.key.len(),
-            offered.value.as_ptr(),
-            offered.value.len(),
-            offered.sequence,
-            offered.new.into(),
-            offered.offset,
+            tombstone,
+            key.as_ptr(),
+            key.len(),
+            value.as_ptr(),
+            value.len(),
+            sequence,
+            new,
+            offset,
         )
     }
+}
+
+#[inline(always)]
+pub fn add(area: &mut [u8], builder: &mut Record, offered: Offered) -> u64 {
+    let Offered { tombstone, key, value, sequence, new, offset } = offered;
+    add_numbers(area, builder, key, value, [tombstone.into(), sequence, new.into(), offset])
 }
 
 #[inline(always)]
@@ -314,11 +312,12 @@ pub struct Scratch {
 }
 
 #[inline(always)]
-pub fn write(
+pub fn write_lent(
     area: &[u8],
     builder: &Record,
     prefix: u64,
-    scratch: &mut Scratch,
+    words: &mut [u64],
+    halves: &mut [u32],
     output: &mut [u8],
     length: &mut u64,
 ) -> u64 {
@@ -329,13 +328,25 @@ pub fn write(
             area.len(),
             builder,
             prefix,
-            scratch.words.as_mut_ptr(),
-            scratch.words.len(),
-            scratch.halves.as_mut_ptr(),
-            scratch.halves.len(),
+            words.as_mut_ptr(),
+            words.len(),
+            halves.as_mut_ptr(),
+            halves.len(),
             output.as_mut_ptr(),
             output.len(),
             length,
         )
     }
+}
+
+#[inline(always)]
+pub fn write(
+    area: &[u8],
+    builder: &Record,
+    prefix: u64,
+    scratch: &mut Scratch,
+    output: &mut [u8],
+    length: &mut u64,
+) -> u64 {
+    write_lent(area, builder, prefix, &mut scratch.words, &mut scratch.halves, output, length)
 }

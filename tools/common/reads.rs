@@ -32,7 +32,7 @@ pub fn other_records(record: &[u64; 16]) -> Vec<[u64; 16]> {
     all
 }
 
-/// Where the numbers of a small opened section stand: pilots, slots, key headers, versions.
+/// Where the numbers of a small opened section stand: pilots, slots, key headers, versions, scan addresses.
 fn places(section: &[u8], record: &[u64; 16]) -> Vec<Field> {
     let [n, b, arena, address, key, count, sequence, value, checksums] =
         [2, 3, 4, 5, 6, 7, 8, 9, 10].map(|place: usize| record[place] as usize);
@@ -53,6 +53,9 @@ fn places(section: &[u8], record: &[u64; 16]) -> Vec<Field> {
         fields(&mut at, &[address, key, key, count]);
         at += suffix;
         (0..versions).for_each(|_| fields(&mut at, &[sequence, value, address, 4 * checksums]));
+    }
+    if record[11] > 0 {
+        all.extend((0..n).map(|i| (record[11] as usize + 24 + i * address, address)));
     }
     all.retain(|&(_, width)| width > 0);
     all
@@ -76,7 +79,7 @@ fn put(section: &mut [u8], (at, width): Field, number: u64) {
 }
 
 /// Copies of a small opened section with one of its numbers at an edge.
-fn at_edges(section: &[u8], record: &[u64; 16]) -> Vec<Vec<u8>> {
+pub fn at_edges(section: &[u8], record: &[u64; 16]) -> Vec<Vec<u8>> {
     let mut all = Vec::new();
     for place in places(section, record) {
         let old = uint(&section[place.0..place.0 + place.1]);
@@ -139,6 +142,24 @@ pub fn one_key(address: usize, checksums: bool, least: u64) -> Input {
     build(&mut Rng::part(1, "one key", 0), entries, Some(form))
 }
 
+/// A store of two keys of two versions with a scan part, with addresses of this width.
+pub fn two_keys(address: usize, checksums: bool) -> Input {
+    let entry =
+        |kind, key: &[u8], value: &[u8], sequence| Entry { kind, key: key.to_vec(), value: value.to_vec(), sequence };
+    let first = [entry(1, b"ka", b"vw", 9), entry(2, b"ka", b"", 5)];
+    let entries = [&first[..], &[entry(2, b"kb", b"", 9), entry(1, b"kb", b"x", 6)]].concat();
+    let form = Form { widths: [address, 1, 1, 1, 2], checksums, prefix: 2, least: 5 };
+    build(&mut Rng::part(1, "two keys", 0), entries, Some(form))
+}
+
+/// The section and its record with another least sequence.
+pub fn with_base(section: &[u8], record: &[u64; 16], least: u64) -> (Vec<u8>, [u64; 16]) {
+    let (mut section, mut record) = (section.to_vec(), *record);
+    record[1] = least;
+    put(&mut section, (56, 8), least);
+    (section, record)
+}
+
 /// Lookups in a section of one key, as opened and with one number at an edge, and the same where the key shares its
 /// first byte.
 pub fn edge_lookups(section: &[u8], record: &[u64; 16], mut ask: impl FnMut(Asked)) {
@@ -159,9 +180,7 @@ pub fn edge_lookups(section: &[u8], record: &[u64; 16], mut ask: impl FnMut(Aske
 /// Lookups under other bases: sums of stored sequences just below 2^64 and beyond.
 pub fn base_lookups(section: &[u8], record: &[u64; 16], mut ask: impl FnMut(Asked)) {
     for less in 0..20 {
-        let (mut section, mut record) = (section.to_vec(), *record);
-        record[1] = u64::MAX - less;
-        put(&mut section, (56, 8), record[1]);
+        let (section, record) = with_base(section, record, u64::MAX - less);
         for limit in [u64::MAX, u64::MAX - 1, u64::MAX - 5, record[1], 0] {
             ask((section.clone(), record, b"k".to_vec(), limit));
         }

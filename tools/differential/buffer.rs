@@ -4,6 +4,9 @@ use crate::case::Answer;
 const GUARD: usize = 16;
 const FILL: u8 = 0xa5;
 
+/// How many places stand before and behind lent numbers.
+const AROUND: usize = 4;
+
 pub struct Buffer {
     bytes: Vec<u8>,
     start: usize,
@@ -39,5 +42,33 @@ impl Buffer {
         } else {
             Answer { bytes: b"written outside a lent buffer".to_vec(), ..answer }
         }
+    }
+}
+
+/// Places full of garbage: those that are used, and others before and behind, which must stay.
+pub struct Places<T> {
+    places: Vec<T>,
+    before: Vec<T>,
+    used: usize,
+}
+
+impl<T: Copy + PartialEq> Places<T> {
+    pub fn new(used: usize, others: usize, garbage: impl FnMut() -> T) -> Self {
+        let places: Vec<T> = std::iter::repeat_with(garbage).take(AROUND + used + others + AROUND).collect();
+        Places { before: places.clone(), places, used }
+    }
+
+    pub fn lent(&mut self) -> &mut [T] {
+        let end = self.places.len() - AROUND;
+        &mut self.places[AROUND..end]
+    }
+
+    pub fn used(&self) -> &[T] {
+        &self.places[AROUND..AROUND + self.used]
+    }
+
+    pub fn others_stay(&self) -> bool {
+        let behind = AROUND + self.used;
+        self.places[..AROUND] == self.before[..AROUND] && self.places[behind..] == self.before[behind..]
     }
 }

@@ -1,26 +1,33 @@
-//! The builder: add (30 to 34, 37), size (37), writing (35 to 40).
+//! The builder: add (30 to 34, 37), size (37), writing (35 to 40), and whole lists from the first add to both openings.
+mod inputs;
+
 use crate::Layer;
-use crate::blocks::Entry;
-use crate::buffer::Buffer;
+use crate::blocks::{Entry, Offered};
+use crate::buffer::{Buffer, Places};
 use crate::building_expected as expected;
 use crate::case::{Answer, Case};
-use crate::entries::entries;
-use crate::ours::{self, Offered, Record, Scratch};
+use crate::chosen;
+use crate::forge::{built, numbers};
+use crate::opening_expected as opening;
+use crate::ours::{self, Record};
 use crate::rng::Rng;
 use crate::run::Run;
+use crate::stores::records;
+use inputs::{fixed, round};
 use oracle_stable::point::Builder;
 
-pub const LAYER: Layer = Layer { name: "building", kinds: &["add", "size", "write"], ask, fixed, round };
+pub const LAYER: Layer = Layer { name: "building", kinds: &["add", "size", "write", "whole"], ask, fixed, round };
 
 const BEFORE: u64 = 77;
 const OUTPUT: u8 = 0xa5;
 
 fn ask(case: &Case) -> Option<(Answer, Answer)> {
+    if case.kind == "whole" {
+        return whole(case);
+    }
     let record: Record = case.numbers[..16].try_into().ok()?;
     match case.kind {
         "add" => Some((our_add(case, record), rust_add(case, record))),
-        // The Rust's totals are counted in a vector of keys, which must be allocated.
-        _ if record[0] > 1 << 26 && record[0] <= 1 << 30 => None,
         "size" => Some((our_size(case, record), rust_size(case, record))),
         _ => Some((our_write(case, record), rust_write(case, record))),
     }
@@ -29,7 +36,9 @@ fn ask(case: &Case) -> Option<(Answer, Answer)> {
 /// Numbers: the record, tombstone, sequence, new, offset. Parts: area, key, value.
 fn our_add(case: &Case, mut record: Record) -> Answer {
     let mut area = Buffer::input(&case.bytes[0], 1);
-    let number = ours::add(area.part_mut(), &mut record, offered(case));
+    let (key, value) = (Buffer::input(&case.bytes[1], 3), Buffer::input(&case.bytes[2], 5));
+    let asked = case.numbers[16..20].try_into().expect("four numbers");
+    let number = ours::add_numbers(area.part_mut(), &mut record, key.part(), value.part(), asked);
     area.guarded(Answer { number, words: record.to_vec(), bytes: area.part().to_vec(), ..Answer::default() })
 }
 
@@ -71,12 +80,26 @@ fn rust_size(case: &Case, record: Record) -> Answer {
 fn our_write(case: &Case, record: Record) -> Answer {
     let area = Buffer::input(&case.bytes[0], 1);
     let [prefix, words, halves, room] = case.numbers[16..20] else { unreachable!("four numbers") };
-    let mut scratch = Scratch { words: vec![5; words as usize], halves: vec![6; halves as usize] };
+    let rng = &mut Rng::part(room, "garbage", words);
+    let mut words = Places::new(words as usize, 0, || rng.wide());
+    let mut halves = Places::new(halves as usize, 0, || rng.wide() as u32);
     let mut output = Buffer::new(room as usize, b"", 3);
     let mut length = BEFORE;
-    let lent = output.part_mut();
-    let number = ours::write(area.part(), &record, prefix, &mut scratch, lent, &mut length);
-    output.guarded(Answer { number, words: vec![length], bytes: output.part().to_vec(), ..Answer::default() })
+    let (to, lent) = (output.part_mut(), (words.lent(), halves.lent()));
+    let number = ours::write_lent(area.part(), &record, prefix, lent.0, lent.1, to, &mut length);
+    if !words.others_stay() || !halves.others_stay() {
+        return Answer { number, bytes: b"written outside a scratch".to_vec(), ..Answer::default() };
+    }
+    let bytes = output.part().to_vec();
+    output.guarded(Answer { number, note: note(number, &bytes), words: vec![length], bytes })
+}
+
+/// A section is counted by its seed.
+fn note(number: u64, section: &[u8]) -> &'static str {
+    match section.get(8..16) {
+        Some(seed) if number == 0 => chosen::seed_name(u64::from_le_bytes(seed.try_into().expect("eight bytes"))),
+        _ => "",
+    }
 }
 
 fn rust_write(case: &Case, record: Record) -> Answer {
@@ -85,181 +108,88 @@ fn rust_write(case: &Case, record: Record) -> Answer {
     match expected::write(&case.bytes[0], &record, prefix, [words, halves], room) {
         Ok(section) => {
             output[..section.len()].copy_from_slice(&section);
-            Answer { words: vec![section.len() as u64], bytes: output, ..Answer::default() }
+            Answer { note: note(0, &section), words: vec![section.len() as u64], bytes: output, ..Answer::default() }
         }
         Err(number) => Answer { number, words: vec![BEFORE], bytes: output, ..Answer::default() },
     }
 }
 
-/// A builder that is filled on both sides: the area lent, its record, and the Rust's builder beside.
-struct Filled {
-    area: Vec<u8>,
-    record: Record,
-    rust: Builder,
+/// The records of blocks added, written, and opened beside these blocks, plain and packed; the section that the Rust
+/// as published writes is opened too. Number: prefix. Parts: data, list.
+fn whole(case: &Case) -> Option<(Answer, Answer)> {
+    let (data, list, prefix) = (&case.bytes[0], numbers(&case.bytes[1])?, case.numbers[0]);
+    let held = records(data, &list);
+    let offsets: Vec<u64> = held.iter().map(|record| record.place as u64).collect();
+    let entries: Vec<Entry> = held.into_iter().map(|record| entry(data, record)).collect();
+    let most = entries.iter().map(|entry| entry.key.len()).max()?;
+    let [stable, published] = [true, false].map(|stable| built(&entries, &offsets, prefix as usize, stable));
+    let (stable, published) = (stable?, published?);
+    let (mut ours, mut rust) = (our_section(&entries, &offsets, prefix), stable.clone());
+    let (mut our_words, mut rust_words) = (Vec::new(), Vec::new());
+    for section in [&ours.clone(), &published] {
+        let (words, bytes) = our_openings(section, data, &list, most, stable.len());
+        (our_words.extend(words), ours.extend(bytes));
+    }
+    for section in [&stable, &published] {
+        let (words, bytes) = rust_openings(section, data, &list, most, stable.len())?;
+        (rust_words.extend(words), rust.extend(bytes));
+    }
+    let note = if stable == published { "one section" } else { "two sections" };
+    let answer = |words, bytes| Answer { note, words, bytes, ..Answer::default() };
+    Some((answer(our_words, ours), answer(rust_words, rust)))
 }
 
-impl Filled {
-    fn new(room: usize) -> Self {
-        Filled { area: vec![0x5a; room], record: [0; 16], rust: Builder::new(0) }
-    }
+fn entry(data: &[u8], record: oracle::block::Record) -> Entry {
+    let value = data[record.place..record.place + record.length].to_vec();
+    Entry { kind: record.kind, key: record.key, value, sequence: record.sequence }
+}
 
-    fn case(&self, entry: &Entry, new: bool, offset: u64) -> Case {
-        let numbers = [u64::from(entry.kind == 2), entry.sequence, new.into(), offset];
-        Case::new("add", &[&self.record[..], &numbers].concat(), &[&self.area, &entry.key, &entry.value])
-    }
-
-    /// Offers an entry; if it is taken, the Rust's builder takes it too.
-    fn add(&mut self, run: &mut Run, entry: &Entry, new: bool, offset: u64) {
-        let case = self.case(entry, new, offset);
-        if let Ok((area, record)) = expected::add(&self.area, &self.record, &offered(&case)) {
-            self.rust.add(entry.kind, &entry.key, &entry.value, entry.sequence, new, offset).expect("taken");
-            (self.area, self.record) = (area, record);
+/// The section that our functions write from these entries in order, or nothing.
+fn our_section(entries: &[Entry], offsets: &[u64], prefix: u64) -> Vec<u8> {
+    let mut area = vec![0; entries.iter().map(|entry| 33 + entry.key.len()).sum()];
+    let (mut record, mut size, mut length, mut last) = ([0; 16], 0, 0, None);
+    for (e, &offset) in entries.iter().zip(offsets) {
+        let offered = Offered {
+            tombstone: e.kind == 2,
+            key: &e.key,
+            value: &e.value,
+            sequence: e.sequence,
+            new: last != Some(&e.key),
+            offset,
+        };
+        if ours::add(&mut area, &mut record, offered) != 0 {
+            return Vec::new();
         }
-        run.compare(ask, case);
+        last = Some(&e.key);
     }
-
-    /// The record and area that document 01 gives are the Rust's.
-    fn check(&self) {
-        assert_eq!(self.record, expected::record(&self.rust), "the Rust's record");
-        assert_eq!(self.area[..self.record[3] as usize], expected::area(&self.rust), "the Rust's area");
+    let (mut words, mut halves) = (vec![5; record[0] as usize], vec![6; 6 * record[0] as usize + 8]);
+    if ours::size(&record, prefix, &mut size) != 0 || size > 1 << 30 {
+        return Vec::new();
     }
-
-    fn write(&self, run: &mut Run, rng: &mut Rng) {
-        let (n, prefix) = (self.record[0], rng.between(0, 25) as u64);
-        size(run, &self.record, prefix);
-        let length = expected::size(&self.record, prefix).unwrap_or(0);
-        for _ in 0..3 {
-            let mut numbers = [prefix, n, 6 * n + 8, length];
-            let place = rng.between(1, 3);
-            numbers[place] = (numbers[place] + rng.next() % 4).saturating_sub(rng.next() % 2);
-            write(run, &self.area, &self.record, numbers);
-        }
+    let mut output = vec![OUTPUT; size as usize];
+    match ours::write_lent(&area, &record, prefix, &mut words, &mut halves, &mut output, &mut length) {
+        0 if length == size => output,
+        _ => Vec::new(),
     }
 }
 
-fn size(run: &mut Run, record: &Record, prefix: u64) {
-    run.compare(ask, Case::new("size", &[&record[..], &[prefix]].concat(), &[]));
+/// Number and record of the plain opening, then of the packed one with its length; and the packed output.
+fn our_openings(section: &[u8], data: &[u8], list: &[u64], most: usize, room: usize) -> (Vec<u64>, Vec<u8>) {
+    let mut scratch = vec![0; 2 * most];
+    let (mut plain, mut packed, mut length) = ([BEFORE; 16], [BEFORE; 16], BEFORE);
+    let mut output = vec![OUTPUT; room];
+    let first = ours::open(section, data, list, &mut scratch, &mut plain);
+    let second = ours::open_packed(section, data, list, &mut scratch, &mut output, &mut packed, &mut length);
+    ([&[first][..], &plain, &[second], &packed, &[length]].concat(), output)
 }
 
-fn write(run: &mut Run, area: &[u8], record: &Record, numbers: [u64; 4]) {
-    run.compare(ask, Case::new("write", &[&record[..], &numbers].concat(), &[area]));
-}
-
-/// A record or area that no add gave.
-fn forged(run: &mut Run, filled: &Filled, entry: &Entry, rng: &mut Rng) {
-    let mut forged = Filled { area: filled.area.clone(), record: filled.record, rust: Builder::new(0) };
-    let place = rng.below(16);
-    let record = &mut forged.record;
-    match rng.below(5) {
-        0 => record[place] = rng.wide(),
-        1 => record[place] = record[place].wrapping_add(rng.pick(&[1, u64::MAX, 1 << 30, 1 << 32])),
-        2 => record[place] = rng.pick(&[0, 1 << 20, (1 << 20) - 1, 1 << 30, (1 << 30) + 1]),
-        3 => forged.area.truncate(rng.between(0, record[3] as usize)),
-        _ => {
-            let at = rng.below(record[3].max(1) as usize);
-            if let Some(byte) = forged.area.get_mut(at) {
-                *byte = rng.pick(&[0, 1, 2, 3, byte.wrapping_add(1), 255]);
-            }
-        }
-    }
-    run.compare(ask, forged.case(entry, rng.one_in(2), u64::MAX));
-    let (n, prefix) = (forged.record[0].min(5000), rng.between(0, 24) as u64);
-    size(run, &forged.record, prefix);
-    let room = expected::size(&filled.record, prefix).unwrap_or(0) + 200;
-    write(run, &forged.area, &forged.record, [prefix, n, 6 * n + 8, room]);
-}
-
-fn fixed(run: &mut Run) {
-    let entry =
-        |kind, key: &[u8], value: &[u8], sequence| Entry { kind, key: key.to_vec(), value: value.to_vec(), sequence };
-    let rng = &mut Rng::part(1, "building", 0);
-    // Each room around what each entry of the worked store needs.
-    for room in 0..130 {
-        let mut filled = Filled::new(room);
-        filled.write(run, rng);
-        filled.add(run, &entry(1, b"ab", b"xyz", 7), room % 7 != 0, 23);
-        filled.add(run, &entry(2, b"ab", b"", 3), false, 47);
-        filled.add(run, &entry(1, b"ac", b"", 5), true, 69);
-        filled.add(run, &entry(1, b"ad", b"", 5), true, 68);
-        filled.check();
-        (0..8).for_each(|_| filled.write(run, rng));
-    }
-    limits(run);
-    widths(run);
-}
-
-/// Keys, version counts and values at the edges of their widths, written from the Rust's builder.
-fn widths(run: &mut Run) {
-    let one = (1, 1, 1);
-    let edges = [255, 256, 65_535, 65_536];
-    let keys = edges.map(|key| (key, 1, 1));
-    let versions = edges.map(|versions| (1, versions as u64, 1));
-    let values = [32_767, 32_768].map(|value| (1, 1, value));
-    for (key, versions, value) in keys.into_iter().chain(versions).chain(values).chain([one]) {
-        let mut rust = Builder::new(0);
-        for sequence in (0..versions).rev() {
-            let new = sequence + 1 == versions;
-            rust.add(1, &vec![7; key], &vec![8; value], sequence, new, 100).expect("taken");
-        }
-        let record = expected::record(&rust);
-        Filled { area: expected::area(&rust), record, rust }.write(run, &mut Rng::part(1, "widths", 0));
-    }
-}
-
-/// 30 at its limits, 33 and 37 by forged records, and offsets that need 8 bytes.
-fn limits(run: &mut Run) {
-    let filled = Filled::new(3 << 20);
-    for (key, value) in [(1 << 20, 0), ((1 << 20) + 1, 0), (0, 1 << 24), (0, (1 << 24) + 1)] {
-        let entry = Entry { kind: 1, key: vec![7; key], value: vec![8; value], sequence: 1 };
-        run.compare(ask, filled.case(&entry, true, 0));
-        run.compare(ask, filled.case(&entry, false, 0));
-    }
-    let mut far = Filled::new(400);
-    let entry = Entry { kind: 1, key: b"k".to_vec(), value: Vec::new(), sequence: u64::MAX };
-    for offset in [0, (1 << 32) - 1, 1 << 32, u64::MAX] {
-        far.add(run, &entry, offset == 0, offset);
-        far.write(run, &mut Rng::part(1, "far", offset));
-    }
-    far.check();
-    for versions in [(1u32 << 30) - 1, 1 << 30, (1 << 30) + 1, u32::MAX] {
-        let mut many = Filled { area: far.area.clone(), record: far.record, rust: Builder::new(0) };
-        let count = many.record[10] as usize + 4;
-        many.area[count..count + 4].copy_from_slice(&versions.to_le_bytes());
-        run.compare(ask, many.case(&entry, true, u64::MAX));
-        run.compare(ask, many.case(&entry, false, u64::MAX));
-    }
-    for keys in [(1 << 20) - 1, 1 << 20, (1 << 20) + 1] {
-        let mut many = Filled { area: far.area.clone(), record: far.record, rust: Builder::new(0) };
-        many.record[0] = keys;
-        run.compare(ask, many.case(&entry, true, u64::MAX));
-        run.compare(ask, many.case(&entry, false, u64::MAX));
-    }
-}
-
-/// Entries in order, or with keys repeated, out of order or marked wrongly.
-fn round(run: &mut Run, rng: &mut Rng) {
-    let count = if rng.one_in(80) { 1100 } else { rng.pick(&[1, 2, 3, 8, 30]) };
-    let (mut entries, wild) = (entries(rng, count), rng.one_in(3));
-    if wild {
-        let (a, b) = (rng.below(entries.len()), rng.below(entries.len()));
-        entries.swap(a, b);
-        let copy = entries[rng.below(entries.len())].clone();
-        entries.insert(a, copy);
-    }
-    let room: usize = entries.iter().map(|entry| 33 + entry.key.len()).sum();
-    let less = if rng.one_in(3) { rng.below(40) } else { 0 };
-    let mut filled = Filled::new(room.saturating_sub(less) + rng.below(3));
-    let mut offset = rng.wide() >> rng.pick(&[0, 32, 40]);
-    for (i, entry) in entries.iter().enumerate() {
-        let new = i == 0 || entries[i - 1].key != entry.key;
-        let wrong = wild && rng.one_in(5);
-        filled.add(run, entry, new != wrong, offset);
-        offset = if wrong { offset / 2 } else { offset.saturating_add(rng.wide() >> 40) };
-        if rng.one_in(8) && entries.len() < 100 {
-            forged(run, &filled, entry, rng);
-        }
-    }
-    filled.check();
-    filled.write(run, rng);
-    (0..4).for_each(|_| forged(run, &filled, &entries[0], rng));
+/// The same by the Rust, or nothing where it does not open.
+fn rust_openings(section: &[u8], data: &[u8], list: &[u64], most: usize, room: usize) -> Option<(Vec<u64>, Vec<u8>)> {
+    let plain = opening::plain(section, data, list, 2 * most).ok()?;
+    let packed = opening::packed(section, data, list, 2 * most, room).ok()?;
+    let bytes = packed.bytes();
+    let [first, second] = [&plain, &packed].map(|index| [&index.record()[..], &[0; 3]].concat());
+    let mut output = vec![OUTPUT; room];
+    output[..bytes.len()].copy_from_slice(bytes);
+    Some(([&[0][..], &first, &[0], &second, &[bytes.len() as u64]].concat(), output))
 }

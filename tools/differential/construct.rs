@@ -1,8 +1,8 @@
 //! Construction: the seed, each bucket's pilot, each slot's key, or question 40.
 use crate::Layer;
-use crate::buffer::Buffer;
+use crate::buffer::{Buffer, Places};
 use crate::case::{Answer, Case};
-use crate::chosen::{self, Keys, area, held};
+use crate::chosen::{self, Keys, area, crowds, held, pairs, serving};
 use crate::entries::keys as sorted_keys;
 use crate::numbers::number;
 use crate::ours;
@@ -14,8 +14,6 @@ use oracle_stable::point::construct;
 
 pub const LAYER: Layer = Layer { name: "construct", kinds: &["construct"], ask, fixed, round };
 
-const SEEDS: [&str; 8] = ["seed 1", "seed 2", "seed 3", "seed 4", "seed 5", "seed 6", "seed 7", "seed 8"];
-
 /// Numbers: the most keys taken, what fixes the garbage, places lent beyond what is needed. Part: area.
 fn ask(case: &Case) -> Option<(Answer, Answer)> {
     let (keys, used) = held(&case.bytes[0], case.numbers[0]);
@@ -26,15 +24,9 @@ fn ask(case: &Case) -> Option<(Answer, Answer)> {
     Some((ours, expected(&keys)))
 }
 
-/// Which of the eight seeds it is.
-fn note(seed: u64) -> &'static str {
-    let of_eight = SEEDS.into_iter().zip(1..).find(|&(_, k)| chosen::seed(k) == seed);
-    of_eight.map_or("", |(name, _)| name)
-}
-
 fn answer(seed: u64, pilots: &[u32], slots: impl Iterator<Item = u64>, hashes: impl Iterator<Item = u64>) -> Answer {
     let words = [seed].into_iter().chain(pilots.iter().map(|&pilot| pilot.into())).chain(slots).chain(hashes);
-    Answer { note: note(seed), ..Answer::words(words.collect()) }
+    Answer { note: chosen::seed_name(seed), ..Answer::words(words.collect()) }
 }
 
 fn expected(keys: &[&[u8]]) -> Answer {
@@ -44,36 +36,6 @@ fn expected(keys: &[&[u8]]) -> Answer {
             answer(seed, &pilots, slots.iter().map(|&key| key as u64), hashes)
         }
         Err(error) => Answer::refused(number(&error)),
-    }
-}
-
-const GUARD: usize = 4;
-
-/// Places full of garbage: those that are used, and others before and behind, which must stay.
-struct Places<T> {
-    places: Vec<T>,
-    before: Vec<T>,
-    used: usize,
-}
-
-impl<T: Copy + PartialEq> Places<T> {
-    fn new(used: usize, others: usize, garbage: impl FnMut() -> T) -> Self {
-        let places: Vec<T> = std::iter::repeat_with(garbage).take(GUARD + used + others + GUARD).collect();
-        Places { before: places.clone(), places, used }
-    }
-
-    fn lent(&mut self) -> &mut [T] {
-        let end = self.places.len() - GUARD;
-        &mut self.places[GUARD..end]
-    }
-
-    fn used(&self) -> &[T] {
-        &self.places[GUARD..GUARD + self.used]
-    }
-
-    fn others_stay(&self) -> bool {
-        let behind = GUARD + self.used;
-        self.places[..GUARD] == self.before[..GUARD] && self.places[behind..] == self.before[behind..]
     }
 }
 
@@ -162,33 +124,21 @@ fn many(run: &mut Run) {
 }
 
 /// Keys with which seed k, from 1 on, serves, or none if k is 9.
-fn served_by(run: &mut Run, k: usize, list: &[Vec<u8>]) {
-    let parts: Vec<&[u8]> = list.iter().map(Vec::as_slice).collect();
-    assert_eq!(expected(&parts).note, *SEEDS.get(k - 1).unwrap_or(&""), "the seed that serves");
+fn served_by(run: &mut Run, k: u64, list: &[Vec<u8>]) {
+    assert_eq!(serving(list), k, "the seed that serves");
     keys(run, list);
-}
-
-/// Two keys of equal hashes under each seed before seed k.
-fn pairs(rng: &mut Rng, k: u64) -> Keys {
-    (1..k).flat_map(|before| chosen::equal(rng, chosen::seed(before), 2)).collect()
-}
-
-/// Keys of one bucket, so many that no pilot serves, under each seed before seed k.
-fn crowds(rng: &mut Rng, k: u64, size: usize) -> Keys {
-    let n = (k as usize - 1) * size;
-    (1..k).flat_map(|before| chosen::crowded(rng, chosen::seed(before), 0, size, n)).collect()
 }
 
 /// Seeds that fail: by equal hashes, by the first bucket, and by a bucket behind others.
 fn failing(run: &mut Run) {
     let rng = &mut Rng::part(1, "failing", 0);
     for k in 2..=9 {
-        served_by(run, k as usize, &pairs(rng, k));
+        served_by(run, k, &pairs(rng, k));
         let others: Keys = (0..100).map(|_| rng.bytes(5)).collect();
-        served_by(run, k as usize, &[others, pairs(rng, k)].concat());
+        served_by(run, k, &[others, pairs(rng, k)].concat());
     }
     for (k, size) in [(2, 24), (3, 60), (9, 300)] {
-        served_by(run, k as usize, &crowds(rng, k, size));
+        served_by(run, k, &crowds(rng, k, size));
     }
     let mixed = [pairs(rng, 8), chosen::crowded(rng, chosen::seed(8), 3, 60, 74)].concat();
     served_by(run, 9, &mixed);
@@ -207,7 +157,7 @@ fn last_pilots(run: &mut Run) {
             let before = pairs(rng, k);
             let group = chosen::served(rng, chosen::seed(k), pilot, 60, &before);
             let serves = if pilot < 100_000 { k } else { k + 1 };
-            served_by(run, serves as usize, &[group, before].concat());
+            served_by(run, serves, &[group, before].concat());
         }
     }
 }

@@ -83,7 +83,7 @@ layers! {
     lookup: "kiban_lookup" "kiban_value";
     spans: "kiban_span";
     construct: "probe_construct";
-    building: "kiban_add" "kiban_size" "kiban_write";
+    building: "kiban_add" "kiban_size" "kiban_write" "kiban_open" "kiban_open_packed";
 }
 
 struct Options {

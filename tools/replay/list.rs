@@ -23,6 +23,12 @@ pub enum Kind {
     Open,
     Lookup,
     Value,
+    Begin,
+    Add,
+    Numbered,
+    Held,
+    Size,
+    Write,
 }
 
 #[derive(Default)]

@@ -1,9 +1,13 @@
-//! Writes lists of the Rust's answers. usage: replay FOLDER, or replay --program CRATE
+//! Writes lists of the Rust's answers. usage: replay FOLDER, or replay --programs CRATES
 // The modules shared with the differential runs have more than is used here.
 #![allow(dead_code)]
 
 #[path = "../common/blocks.rs"]
 mod blocks;
+#[path = "../common/building.rs"]
+mod building_expected;
+#[path = "../common/chosen.rs"]
+mod chosen;
 #[path = "../common/damage.rs"]
 mod damage;
 #[path = "../common/entries.rs"]
@@ -23,6 +27,7 @@ mod rng;
 #[path = "../common/stores.rs"]
 mod stores;
 
+mod building;
 mod leaves;
 mod list;
 mod lookups;
@@ -34,39 +39,57 @@ use std::path::Path;
 
 type Make = fn(&mut Rng) -> List;
 
-/// The lists in the order in which the program of the gate replays them.
-const LISTS: [(&str, Make); 9] = [
-    ("crc.bin", leaves::crc),
-    ("hash.bin", leaves::hash),
-    ("trailer.bin", leaves::trailer),
-    ("verify.bin", leaves::verify),
-    ("walk.bin", leaves::walk),
-    ("open.bin", whole::open),
-    ("run.bin", whole::run),
-    ("lookup.bin", lookups::lookup),
-    ("forged.bin", lookups::forged),
+/// The programs of the gate, and the lists of each in the order in which it replays them.
+const PROGRAMS: [(&str, &[(&str, Make)]); 2] = [
+    (
+        "replay",
+        &[
+            ("crc.bin", leaves::crc),
+            ("hash.bin", leaves::hash),
+            ("trailer.bin", leaves::trailer),
+            ("verify.bin", leaves::verify),
+            ("walk.bin", leaves::walk),
+            ("open.bin", whole::open),
+            ("run.bin", whole::run),
+            ("lookup.bin", lookups::lookup),
+            ("forged.bin", lookups::forged),
+        ],
+    ),
+    (
+        "replay_building",
+        &[
+            ("builds.bin", building::builds),
+            ("refused.bin", building::refused),
+            ("widths.bin", building::widths),
+            ("many.bin", building::many),
+        ],
+    ),
 ];
 
 fn main() {
     let words: Vec<String> = std::env::args().skip(1).collect();
     oracle::quiet();
+    oracle_stable::quiet();
     match words.iter().map(String::as_str).collect::<Vec<_>>()[..] {
-        ["--program", program] => {
-            let program = Path::new(program);
-            std::fs::write(program.join("stdout"), write(&program.join("data"))).expect("a program's folder");
+        ["--programs", crates] => {
+            for (program, lists) in PROGRAMS {
+                let program = Path::new(crates).join(program);
+                let stdout = write(&program.join("data"), lists);
+                std::fs::write(program.join("stdout"), stdout).expect("a program's folder");
+            }
         }
-        [folder] => _ = write(Path::new(folder)),
-        _ => panic!("usage: replay FOLDER, or replay --program CRATE"),
+        [folder] => PROGRAMS.iter().for_each(|(_, lists)| _ = write(Path::new(folder), lists)),
+        _ => panic!("usage: replay FOLDER, or replay --programs CRATES"),
     }
 }
 
 /// Writes the lists, and gives what a program must print that replays them.
-fn write(to: &Path) -> String {
+fn write(to: &Path, lists: &[(&str, Make)]) -> String {
     std::fs::create_dir_all(to).expect("a folder to write to");
     let line = |(name, make): &(&str, Make)| {
         let list = make(&mut Rng::part(1, name, 0));
         list.write(to, name);
         format!("{name} agree {} differ 0\n", list.rows())
     };
-    LISTS.iter().map(line).collect()
+    lists.iter().map(line).collect()
 }

@@ -1,5 +1,4 @@
 // CRC-32, hash and its companions, trailer, blocks.
-use crate::list;
 
 pub fn crc(list: &[u8], row: u64) -> bool {
     kiban::kiban_crc32(list::bytes(list, row, 2)) as u64 == list::field(list, row, 4)

@@ -1,5 +1,4 @@
 // Lookups and the places of values.
-use crate::list;
 
 pub fn lookup(list: &[u8], row: u64) -> bool {
     let mut record = [0u64; 16];

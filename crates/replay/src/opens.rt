@@ -1,5 +1,4 @@
 // Openings, plain and packed.
-use crate::list;
 
 // No row of the lists has longer data, more numbers in its block list, a longer key scratch or a longer output.
 const MOST_DATA: usize = 1_179_712;

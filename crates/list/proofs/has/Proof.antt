@@ -1,8 +1,8 @@
 use Prim.Native.Nat.{_≤_, _-_}
 use lib.ListN.{length}
 use borrow.Author.Needs.{needs}
-use Rattle.replay.proofs.list.has.Statement.{statement}
-use Rattle.replay.proofs.list.has.Tie as tie
+use Rattle.list.proofs.has.Statement.{statement}
+use Rattle.list.proofs.has.Tie as tie
 
 abbrev Inv-loop : tie.InvT-loop
 Inv-loop list at numbers from₀ i₀ from i = i ≤ length numbers

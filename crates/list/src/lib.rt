@@ -1,5 +1,14 @@
-// A list's numbers and bytes. Outside the list all is 0 or empty, so that nothing is asked of a caller.
+// A list of rows of numbers, as tools/replay/README.md has it: its numbers and bytes, and counts of its rows. Outside the list all is 0 or
+// empty, so that nothing is asked of a caller.
 ghost use Prim.Native.Nat.{_≤_};
+use libc::STDOUT_FILENO;
+
+// Where the next row stands, and how many before it agree and differ.
+pub struct Tally {
+    pub at: u64,
+    pub agree: u64,
+    pub differ: u64,
+}
 
 pub fn at_most(n: u64, most: usize) -> usize
     ensures { λ r. ⌜ (r ≤ n) × (r ≤ most) ⌝ }
@@ -78,4 +87,42 @@ pub fn put(from: &[u8], to: &mut [u8], at: u64) {
     let start = at_most(at, to.len());
     let size = at_most(from.len() as u64, to.len() - start);
     bytes::copy(&from[0..size], &mut to[start..start + size]);
+}
+
+// The tally before the first row.
+pub fn start(list: &[u8]) -> Tally {
+    Tally {
+        at: number(list, 8),
+        agree: 0,
+        differ: 0,
+    }
+}
+
+// The tally behind a row that agrees or not.
+pub fn counted(list: &[u8], t: Tally, agrees: bool) -> Tally {
+    let next = field(list, t.at, 1);
+    if agrees {
+        return Tally {
+            at: next,
+            agree: std::num::wrapping_add_u64(t.agree, 1),
+            differ: t.differ,
+        };
+    }
+    Tally {
+        at: next,
+        agree: t.agree,
+        differ: std::num::wrapping_add_u64(t.differ, 1),
+    }
+}
+
+fn write_count(label: &[u8], n: u64) {
+    io::write_all(STDOUT_FILENO, label);
+    io::print_decimal(STDOUT_FILENO, n);
+}
+
+pub fn write_tally(name: &[u8], t: Tally) {
+    io::write_all(STDOUT_FILENO, name);
+    write_count(b" agree ", t.agree);
+    write_count(b" differ ", t.differ);
+    io::write_all(STDOUT_FILENO, b"\n");
 }

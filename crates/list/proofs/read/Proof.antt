@@ -2,8 +2,8 @@ use mathlib.Core.Path.{_≡_, refl}
 use Prim.Native.Nat.{_≤_, _-_}
 use lib.ListN.{length, length-set}
 use borrow.Author.Needs.{needs}
-use Rattle.replay.proofs.list.read.Statement.{statement}
-use Rattle.replay.proofs.list.read.Tie as tie
+use Rattle.list.proofs.read.Statement.{statement}
+use Rattle.list.proofs.read.Tie as tie
 
 abbrev Inv-loop : tie.InvT-loop
 Inv-loop list at to₀ from₀ i₀ to from i = (i ≤ length to) × (length to ≡ length to₀)
