@@ -18,10 +18,10 @@ use Rattle.building.specs.State.{RunsKeep}
 use Rattle.building.proofs.State.{runs-keep}
 use Rattle.numbers.specs.BuilderNumbers.{builderNumbers, builderIn}
 use Rattle.numbers.proofs.BuilderNumbers.{builder-read}
-use Rattle.kiban.specs.Built.{offerFrom, builderWritten}
+use Rattle.kiban.specs.Built.{builderWritten}
 use Rattle.calls.specs.Calls.{place}
 use Rattle.buildcalls.specs.BuildCalls.{offered, adds, AddCall, Memory, noEntries, AsLeft, leftBy, takenWith, AddCalls, none, next}
-use Rattle.buildcalls.proofs.Answers.{not-both, added, added-left}
+use Rattle.buildcalls.proofs.Answers.{not-both, same-offer, added, added-left}
 
 -- one more add at the end of a run
 run-more : (r : Run) (ls : List Lending) (l : Lending) → runFrom r (ls ++ (l ∷ [])) ≡ runStep (runFrom r ls) l
@@ -51,7 +51,7 @@ used-length ls = let k = runs-keep ls in ap length (k .area-is) ∙ ap (λ (b : 
 -- one call more
 module _ (c : AddCall) {m : Memory} (left : AsLeft m (c .lent .numbers) (c .lent .area)) where
   pub lending : Lending
-  unfolding offered offerFrom
+  unfolding offered
   lending = record { offer = offered (c .lent); seq-fits = c .lent .seq-fits; offset-fits = c .lent .offset-fits; rest = left .rest }
 
   module _ (ls : List Lending) (taken : List Offer) (v : Leaves (runOf ls) m taken) where
@@ -60,7 +60,7 @@ module _ (c : AddCall) {m : Memory} (left : AsLeft m (c .lent .numbers) (c .lent
 
     pub same-add : adds (c .lent) ≡ addOf (run .used ++ lending .rest) (run .builder) (lending .offer)
     unfolding lending
-    same-add = ap₂ (λ (u : List ℕ) (b : Builder). addOf u b (offered (c .lent))) (same-area v left) (same-builder v left)
+    same-add = same-offer (c .lent) ∙ ap₂ (λ (u : List ℕ) (b : Builder). addOf u b (offered (c .lent))) (same-area v left) (same-builder v left)
 
     -- taken
     add-taken : (s : BuilderState) → adds (c .lent) ≡ given s → Leaves (runFor run (lending .offer) (given s)) (leftBy c) (takenWith taken c)

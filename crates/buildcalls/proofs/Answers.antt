@@ -1,20 +1,20 @@
 -- What the number of a call says of the answer behind it, and what the call then leaves.
 -- Assumes nothing.
-use mathlib.Core.Path.{_≡_, sym, ap, _∙_}
+use mathlib.Core.Path.{_≡_, refl, sym, ap, _∙_}
 use mathlib.Core.List.{List}
 use Prim.Native.Nat.{ℕ}
 use native.Mathlib.Omega.{arith}
 use lib.ListN.{length}
 use lib.Seq.{sets}
 use Rattle.num.specs.Answer.{Answer, given, refused}
-use Rattle.builder.specs.Add.{BuilderState, addedRead, addedNumber, addedArea}
+use Rattle.builder.specs.Add.{BuilderState, addOf, addedRead, addedNumber, addedArea}
 use Rattle.writer.specs.Write.{sectionWritten}
-use Rattle.numbers.specs.BuilderNumbers.{builderNumbers}
+use Rattle.numbers.specs.BuilderNumbers.{builderNumbers, builderIn}
 use Rattle.numbers.proofs.BuilderNumbers.{builder-stands}
 use Rattle.numbered.specs.Numbers.{AddsNumbered, WritesNumbered}
 use Rattle.numbered.proofs.Numbers.{adds-numbered, writes-numbered}
-use Rattle.kiban.specs.Built.{builderWritten, sectionLenWritten}
-use Rattle.buildcalls.specs.BuildCalls.{offered, adds, AddCall, writes, WriteCall}
+use Rattle.kiban.specs.Built.{offerFrom, builderWritten, sectionLenWritten}
+use Rattle.buildcalls.specs.BuildCalls.{AddLent, offered, adds, AddCall, writes, WriteCall}
 
 pub same-given : {A : Type 0} {a b : A} → given a ≡ given b → a ≡ b
 same-given e = cc
@@ -23,6 +23,11 @@ pub not-both : {A : Type 0} (n : ℕ) (a : A) → refused n ≡ given a → ⊥
 not-both n a e = let z : _≡_ {A = ℕ} 0 1 = cc in omega arith
 
 -- ---- adds
+
+-- the entry of the contract is the one that the call offers
+pub same-offer : (lent : AddLent) → adds lent ≡ addOf (lent .area) (builderIn (lent .numbers)) (offered lent)
+unfolding offered offerFrom
+same-offer lent = refl
 
 -- a number that is not 0 is the refusal's
 pub refused-add : (x : Answer BuilderState) (n : ℕ) → addedNumber (addedRead x) ≡ n → (n ≡ 0 → ⊥) → x ≡ refused n
@@ -33,7 +38,9 @@ refused-add (refused k) n e h = ap refused e
 -- the result 0: the entry was taken
 pub added : (c : AddCall) → c .result ≡ 0 → (s : BuilderState) × (adds (c .lent) ≡ given s)
 unfolding AddsNumbered
-added c z = adds-numbered (c .lent .area) (c .lent .numbers) (offered (c .lent)) .zero .0 (sym (c .returns) ∙ z)
+added c z =
+    let l = c .lent in
+    adds-numbered (l .area) (l .numbers) (offerFrom (l .tombstone) (l .key) (l .value) (l .seq) (l .new-key) (l .offset)) .zero .0 (sym (c .returns) ∙ z)
 
 pub added-left : (c : AddCall) (s : BuilderState) → adds (c .lent) ≡ given s → (c .numbers ≡ builderNumbers (s .builder)) × (c .area ≡ s .area)
 unfolding builderWritten addedArea

@@ -21,7 +21,7 @@ use Rattle.building.proofs.Promises.{builds-and-opens, same-versions}
 use Rattle.calls.specs.Calls.{Lent, opens, packs, Linker, openedPlain, openedPacked, holding, blocksHeld, LinkerCalls, packedSize}
 use Rattle.calls.proofs.Records.{packed-length}
 use Rattle.calls.proofs.Calls.{linker-calls}
-use Rattle.buildcalls.specs.BuildCalls.{BuiltBeside, LentThese, BuildCalls, lentTo, BuiltLinkerCalls}
+use Rattle.buildcalls.specs.BuildCalls.{BuiltBeside, LentThese, OpenBuiltCalls, lentTo, BuiltLinkerCalls}
 use Rattle.buildcalls.proofs.Writes.{by-run}
 
 module _ {taken : List Offer} {prefix : ℕ} {s «data» blocks : List ℕ} (b : BuiltBeside taken prefix s «data» blocks) (scratch : ℕ) (half : ScratchHolds scratch taken) where
@@ -47,9 +47,9 @@ module _ {s «data» blocks : List ℕ} (lent : Lent) (these : LentThese s «dat
   packs-these room = λ i. openPackedOf (these .same-section i) (these .same-backing i) (these .same-blocks i) (lent .scratch) room
 
 -- P4 at the entries
-pub build-calls : BuildCalls
-unfolding BuildCalls OpensAs PacksAs headerNumber packedNumber packedRead
-build-calls taken prefix s «data» blocks b =
+pub open-built-calls : OpenBuiltCalls
+unfolding OpenBuiltCalls OpensAs PacksAs headerNumber packedNumber packedRead
+open-built-calls taken prefix s «data» blocks b =
     record {
       plain = λ c these half.
           let x = as-record b (c .lent .scratch) half in

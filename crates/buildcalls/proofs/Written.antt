@@ -1,6 +1,6 @@
--- What the calls of building write: nothing on a refusal, and nothing behind what they say.
+-- What the calls of building write: nothing behind what they say.
 -- Assumes nothing.
-use mathlib.Core.Path.{_≡_, refl, sym, ap, ap₂, _∙_, subst⁻¹}
+use mathlib.Core.Path.{_≡_, sym, ap, ap₂, _∙_, subst⁻¹}
 use mathlib.Core.List.{List, _++_}
 use Prim.Native.Nat.{ℕ, _+_, _≤_}
 use native.Mathlib.Omega.{arith}
@@ -18,53 +18,20 @@ use Rattle.area.specs.Area.{headLen, areaVersionLen, keysIn}
 use Rattle.construction.specs.Construct.{Constructed, constructOf}
 use Rattle.builder.specs.declared.Builder.{Builder}
 use Rattle.builder.specs.Offer.{Offer, headBytes, versionBytes, entryLen}
-use Rattle.builder.specs.Record.{builderAfter, sizedRead, sizedNumber}
-use Rattle.builder.specs.Add.{versionsWith, areaAfter, countedOf, BuilderState, addedRead, addedNumber, addedArea}
+use Rattle.builder.specs.Record.{builderAfter}
+use Rattle.builder.specs.Add.{versionsWith, areaAfter, countedOf, BuilderState, addedRead, addedNumber}
 use Rattle.builder.specs.Internal.{Passed}
 use Rattle.builder.proofs.Asked as asked
 use Rattle.adding.proofs.Entry.{length-head, old-keyed}
 use Rattle.measuring.specs.Measured.{AreaMeasured, ReadBackMeasured}
 use Rattle.measuring.proofs.Measured.{read-back-measured}
-use Rattle.writer.specs.Write.{sectionFor, sectionWritten}
-use Rattle.writing.specs.Wrote.{wroteRead, wroteNumber}
+use Rattle.writer.specs.Write.{sectionFor}
 use Rattle.building.proofs.Taking as taking
 use Rattle.numbers.specs.BuilderNumbers.{builderNumbers, builderIn}
-use Rattle.kiban.specs.Built.{builderWritten, sizeWritten, sectionLenWritten}
 use Rattle.calls.specs.Calls.{place}
-use Rattle.buildcalls.specs.BuildCalls.{offered, adds, AddCall, writes, WriteCall, BuildRefusalsWriteNothing, BehindKept}
-use Rattle.buildcalls.proofs.Answers.{same-given, not-both, added, added-left, wrote, wrote-left}
+use Rattle.buildcalls.specs.BuildCalls.{offered, adds, AddCall, writes, WriteCall, BehindKept}
+use Rattle.buildcalls.proofs.Answers.{same-given, not-both, same-offer, added, added-left, wrote, wrote-left}
 use Rattle.buildcalls.proofs.Writes.{Fits, fits}
-
--- ---- refusals
-
-add-kept : (x : Answer BuilderState) (area numbers : List ℕ) → (addedNumber (addedRead x) ≡ 0 → ⊥)
-    → (addedArea x area ≡ area) × (builderWritten x numbers ≡ numbers)
-unfolding addedNumber addedRead addedArea builderWritten
-add-kept (given s) area numbers n = absurd (n refl)
-add-kept (refused k) area numbers n = (refl, refl)
-
-size-kept : (x : Answer ℕ) (before : ℕ) → (sizedNumber (sizedRead x) ≡ 0 → ⊥) → sizeWritten x before ≡ before
-unfolding sizedNumber sizedRead sizeWritten
-size-kept (given k) before n = absurd (n refl)
-size-kept (refused k) before n = refl
-
-write-kept : (x : Answer (List ℕ)) (output : List ℕ) (len : ℕ) → (wroteNumber (wroteRead x) ≡ 0 → ⊥)
-    → (sectionWritten x output ≡ output) × (sectionLenWritten x len ≡ len)
-unfolding wroteNumber wroteRead sectionWritten sectionLenWritten
-write-kept (given s) output len n = absurd (n refl)
-write-kept (refused k) output len n = (refl, refl)
-
-pub build-refusals-write-nothing : BuildRefusalsWriteNothing
-build-refusals-write-nothing =
-    record {
-      adding = λ c n.
-          let k = add-kept (adds (c .lent)) (c .lent .area) (c .lent .numbers) (λ z. n (c .returns ∙ z)) in
-          (c .leaves-area ∙ k .0, c .leaves ∙ k .1);
-      sizing = λ c n. c .leaves ∙ size-kept _ (c .before) (λ z. n (c .returns ∙ z));
-      writing = λ c n.
-          let k = write-kept (writes (c .lent)) (c .lent .output) (c .lent .len) (λ z. n (c .returns ∙ z)) in
-          (c .leaves-output ∙ k .0, c .leaves-len ∙ k .1);
-    }
 
 -- ---- behind an entry that was taken
 
@@ -121,8 +88,8 @@ unfolding builderNumbers
 add-behind c s q z =
     let l = c .lent in
     let b = builderIn (l .numbers) in
-    let p = asked.taken (l .area) b (offered l) (sym z ∙ c .returns) in
-    let same = taking.passed (l .area) b (offered l) s q .1 in
+    let p = asked.taken (l .area) b (offered l) (sym z ∙ c .returns ∙ ap (λ (a : Answer BuilderState). addedNumber (addedRead a)) (same-offer l)) in
+    let same = taking.passed (l .area) b (offered l) s (sym (same-offer l) ∙ q) .1 in
     let left = added-left c s q in
     let used : place (c .numbers) 3 ≡ s .builder .used = ap (λ (n : List ℕ). place n 3) (left .0) in
     let behind =

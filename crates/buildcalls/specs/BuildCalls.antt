@@ -2,13 +2,15 @@
 -- `kiban_size` and `kiban_write`, then the openings and lookups of crates/calls. A call is what its entry was lent, its result and what it left, in
 -- the words of its contract (crates/kiban/src/lib.rt).
 use mathlib.Core.Path.{_≡_}
-use mathlib.Core.List.{List, [], _∷_, _++_, List·Memᴰ}
-use Prim.Native.Nat.{ℕ, _^_, _<_, _≤_}
+use mathlib.Core.Bool.{true, false}
+use mathlib.Core.List.{List, [], _∷_, _++_}
+use Prim.Native.Nat.{ℕ, _+_, _^_, _<_, _≤_}
 use lib.Dec.{eqb}
 use lib.ListN.{length, take, drop}
 use Rattle.num.specs.Answer.{Answer}
 use Rattle.num.specs.Choice.{if_then_else_}
-use Rattle.num.specs.Number.{Bytes}
+use Rattle.num.specs.Number.{Bytes, leAt}
+use Rattle.sstable.specs.declared.Kind.the-variants.{Put, Tombstone}
 use Rattle.builder.specs.Offer.{Offer}
 use Rattle.builder.specs.Record.{sizeOfSection, sizedRead, sizedNumber}
 use Rattle.builder.specs.Add.{BuilderState, addOf, addedRead, addedNumber, addedArea}
@@ -19,7 +21,7 @@ use Rattle.building.specs.InOrder.{InOrder, HoldsJust, ScratchHolds, SameAdded}
 use Rattle.building.specs.Builds.{sizeFor, Outcome}
 use Rattle.numbers.specs.BuilderNumbers.{builderIn}
 use Rattle.kiban.specs.Built.{offerFrom, builderWritten, sizeWritten, sectionLenWritten}
-use Rattle.calls.specs.Calls.{place, Lent, OpenCall, PackCall, Linker, openedPlain, openedPacked, holding, blocksHeld, LookupCall, LinkedAlike, packedSize}
+use Rattle.calls.specs.Calls.{place, Lent, OpenCall, PackCall, Linker, openedPlain, openedPacked, holding, blocksHeld, LookupCall, LinkedAlike, scanNumber, packedSize}
 
 -- ---- calls
 
@@ -37,12 +39,22 @@ pub record AddLent : Type 0 where
   pub offset : ℕ
   pub offset-fits : offset < 2 ^ 64
 
--- the entry that it offers
+-- the entry that it offers: tombstone 0 is a Put, any other number a tombstone; new-key 0 is no new key, any other number one
 unfoldable pub offered : AddLent → Offer
-offered lent = offerFrom (lent .tombstone) (lent .key) (lent .value) (lent .seq) (lent .new-key) (lent .offset)
+offered lent =
+    record {
+      kind = if eqb (lent .tombstone) 0 then Put else Tombstone;
+      key = lent .key;
+      value = lent .value;
+      seq = lent .seq;
+      new-key = if eqb (lent .new-key) 0 then false else true;
+      offset = lent .offset;
+    }
 
+-- what it answers, in the words of the contract
 abbrev pub adds : AddLent → Answer BuilderState
-adds lent = addOf (lent .area) (builderIn (lent .numbers)) (offered lent)
+adds lent =
+    addOf (lent .area) (builderIn (lent .numbers)) (offerFrom (lent .tombstone) (lent .key) (lent .value) (lent .seq) (lent .new-key) (lent .offset))
 
 -- a call of `kiban_add`
 pub record AddCall : Type 0 where
@@ -132,6 +144,7 @@ pub record Kept (m : Memory) (taken : List Offer) : Type 0 where
   pub numbers : m .numbers ≡ numbersFor taken
   pub used : m .used ≡ areaOf (groupsOf taken)
   pub adding : (c : AddCall) → AsLeft m (c .lent .numbers) (c .lent .area) → c .result ≡ 37 → ⊥
+  -- with no entry taken it is 69, or 101 with a prefix, though writing refuses the empty builder (36)
   pub sizing : (c : SizeCall) → c .numbers ≡ m .numbers → (c .result ≡ 0) × (c .after ≡ sizeFor taken (c .prefix))
   pub writing : (c : WriteCall) → AsLeft m (c .lent .numbers) (c .lent .area) → c .result ≡ 37 → ⊥
 
@@ -141,7 +154,7 @@ AddsKeep = (m : Memory) (taken : List Offer) → AddCalls m taken → Kept m tak
 -- ---- writing
 
 -- a call of `kiban_write` behind a list of adds has one of the outcomes of `Outcome`, each in its case alone, and returns and leaves what it says
-pub record Wrote (taken : List Offer) (c : WriteCall) : Type 0 where
+pub record WriteOutcome (taken : List Offer) (c : WriteCall) : Type 0 where
   pub answer : Answer (List ℕ)
   pub outcome : Outcome taken (c .lent .prefix) (c .lent .room64) (c .lent .room32) (length (c .lent .output)) answer
   pub result : c .result ≡ wroteNumber (wroteRead answer)
@@ -150,7 +163,7 @@ pub record Wrote (taken : List Offer) (c : WriteCall) : Type 0 where
 
 unfoldable pub WriteCalls : Type 0
 WriteCalls =
-    (m : Memory) (taken : List Offer) → AddCalls m taken → (c : WriteCall) → AsLeft m (c .lent .numbers) (c .lent .area) → Wrote taken c
+    (m : Memory) (taken : List Offer) → AddCalls m taken → (c : WriteCall) → AsLeft m (c .lent .numbers) (c .lent .area) → WriteOutcome taken c
 
 -- a section that was built: a list of adds, and a call of `kiban_write` behind it that returned 0; the first `*len` bytes of its output
 pub record Built (taken : List Offer) (prefix : ℕ) (s : List ℕ) : Type 0 where
@@ -161,6 +174,13 @@ pub record Built (taken : List Offer) (prefix : ℕ) (s : List ℕ) : Type 0 whe
   pub same-prefix : call .lent .prefix ≡ prefix
   pub zero : call .result ≡ 0
   pub bytes : s ≡ take (call .len) (call .output)
+
+-- the prefix that was asked for is in the section: with prefix 0 there is no scan part, with another one there is, and the prefix stands in it
+-- behind the magic
+pub record PrefixKept : Type 0 where
+  pub without : (taken : List Offer) (s : List ℕ) → Built taken 0 s → scanNumber s ≡ 0
+  pub within : (taken : List Offer) (prefix : ℕ) (s : List ℕ) → Built taken prefix s → 0 < prefix
+      → (scanNumber s ≡ 0 → ⊥) × (leAt s (scanNumber s + 8) 4 ≡ prefix)
 
 -- `kiban_size` tells its length
 unfoldable pub SizeCalls : Type 0
@@ -187,14 +207,15 @@ pub record LentThese (s «data» blocks : List ℕ) (lent : Lent) : Type 0 where
   pub same-backing : lent .backing ≡ «data»
   pub same-blocks : lent .blocks ≡ blocks
 
--- promise P4 at the entries: both openings return 0, with a key scratch that holds every key twice and an output that holds the packed bytes
+-- promise P4 at the entries: both openings return 0, with a key scratch that holds every key twice (15) and an output that holds the packed
+-- bytes (9)
 pub record OpensBuilt (taken : List Offer) (s «data» blocks : List ℕ) : Type 0 where
   pub plain : (c : OpenCall) → LentThese s «data» blocks (c .lent) → ScratchHolds (c .lent .scratch) taken → c .result ≡ 0
   pub packed : (c : PackCall) → LentThese s «data» blocks (c .lent) → ScratchHolds (c .lent .scratch) taken → packedSize s ≤ length (c .output)
       → c .result ≡ 0
 
-unfoldable pub BuildCalls : Type 0
-BuildCalls = (taken : List Offer) (prefix : ℕ) (s «data» blocks : List ℕ) → BuiltBeside taken prefix s «data» blocks → OpensBuilt taken s «data» blocks
+unfoldable pub OpenBuiltCalls : Type 0
+OpenBuiltCalls = (taken : List Offer) (prefix : ℕ) (s «data» blocks : List ℕ) → BuiltBeside taken prefix s «data» blocks → OpensBuilt taken s «data» blocks
 
 -- what a linker's opening was lent
 unfoldable pub lentTo : Linker → Lent
@@ -221,17 +242,6 @@ pub record BuildRefusalsWriteNothing : Type 0 where
 pub record BehindKept : Type 0 where
   pub adding : (c : AddCall) → c .result ≡ 0
       → (place (c .numbers) 3 ≤ length (c .lent .area)) × (drop (place (c .numbers) 3) (c .area) ≡ drop (place (c .numbers) 3) (c .lent .area))
+  -- `Bytes`, since a lent area is a slice of bytes
   pub writing : (c : WriteCall) → Bytes (c .lent .area) → c .result ≡ 0
       → (c .len ≤ length (c .lent .output)) × (drop (c .len) (c .output) ≡ drop (c .len) (c .lent .output))
-
--- ---- question 37 of sixteen numbers
-
--- a number that is not 0 in one of the last four places: no record that `kiban_add` wrote
-unfoldable pub NoRecord : List ℕ → Type 0
-NoRecord numbers = (i : ℕ) × ((12 ≤ i) × ((i < 16) × (place numbers i ≡ 0 → ⊥)))
-
--- it is refused with 37, or with a question that goes before
-pub record NoRecordCalls : Type 0 where
-  pub adding : (c : AddCall) → NoRecord (c .lent .numbers) → List·Memᴰ (c .result) (30 ∷ 31 ∷ 32 ∷ 33 ∷ 37 ∷ [])
-  pub sizing : (c : SizeCall) → NoRecord (c .numbers) → c .result ≡ 37
-  pub writing : (c : WriteCall) → NoRecord (c .lent .numbers) → List·Memᴰ (c .result) (35 ∷ 36 ∷ 37 ∷ [])

@@ -41,12 +41,12 @@ use Rattle.building.proofs.Writing.{writes-exactly, some-groups}
 -- ---- what is written
 
 -- a section that was given, by what construction gave
-record Given (taken : List Offer) (prefix : ℕ) (s : List ℕ) : Type 0 where
-  constructed : Constructed
-  construction : constructOf (keysOf taken) ≡ given constructed
-  is : s ≡ sectionOf taken prefix constructed
-  prefix-short : prefix ≤ 24
-  some-entry : 0 < length taken
+pub record Given (taken : List Offer) (prefix : ℕ) (s : List ℕ) : Type 0 where
+  pub constructed : Constructed
+  pub construction : constructOf (keysOf taken) ≡ given constructed
+  pub is : s ≡ sectionOf taken prefix constructed
+  pub prefix-short : prefix ≤ 24
+  pub some-entry : 0 < length taken
 
 given-by : (taken : List Offer) (prefix room64 room32 room : ℕ) (a : Answer (List ℕ)) → Outcome taken prefix room64 room32 room a
     → (s : List ℕ) → a ≡ given s → Given taken prefix s
@@ -57,7 +57,7 @@ given-by taken prefix room64 room32 room a (scratch-short p h e) s z = absurd (l
 given-by taken prefix room64 room32 room a (output-short p h e l) s z = absurd (let y : _≡_ {A = ℕ} 0 1 = cc in omega arith)
 given-by taken prefix room64 room32 room a (no-seed p h e l f) s z = absurd (let y : _≡_ {A = ℕ} 0 1 = cc in omega arith)
 
-built-by : (ls : List Lending) (prefix : ℕ) (s : List ℕ) → BuiltSection ls prefix s → Given (runOf ls .taken) prefix s
+pub built-by : (ls : List Lending) (prefix : ℕ) (s : List ℕ) → BuiltSection ls prefix s → Given (runOf ls .taken) prefix s
 unfolding WritesExactly
 built-by ls prefix s b =
     given-by (runOf ls .taken) prefix (b .room64) (b .room32) (b .room) (given s)

@@ -35,7 +35,8 @@ entryAdded e = record { key = e .key; seq = e .seq; kind = e .kind; place = e .o
 unfoldable pub versionAdded : Offer → Version
 versionAdded e = record { key = e .key; seq = e .seq; kind = e .kind; value = e .value }
 
--- blocks that cover the data hold the entries alone, in order, and each value stands at its added offset
+-- blocks that cover the data hold the entries alone, in order, and each value stands at its added offset; questions 11 to 13 and the cover are
+-- `Covers`, and 14 holds since 30 asked it of every entry taken
 pub record HoldsJust («data» blocks : List ℕ) (taken : List Offer) : Type 0 where
   pub covers : Covers «data» blocks
   pub just : storeEntries «data» blocks ≡ map entryAdded taken

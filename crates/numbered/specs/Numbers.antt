@@ -43,7 +43,7 @@ lookupNumbers = 24 ∷ 25 ∷ []
 abbrev pub valueNumbers : List ℕ
 valueNumbers = 26 ∷ []
 
--- of `kiban_add`
+-- of `kiban_add`; these lists are no order of questions, and an add asks 37 before 34
 abbrev pub addNumbers : List ℕ
 addNumbers = 30 ∷ 31 ∷ 32 ∷ 33 ∷ 34 ∷ 37 ∷ []
 

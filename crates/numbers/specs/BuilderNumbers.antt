@@ -21,7 +21,8 @@ isBuilderNumbers numbers =
     both (eqb (getD numbers 12 0) 0)
     (both (eqb (getD numbers 13 0) 0) (both (eqb (getD numbers 14 0) 0) (eqb (getD numbers 15 0) 0)))
 
--- the used bytes; with a number in the last four places more than any area has, so that 37 refuses the record where it stands
+-- the used bytes; with a number in the last four places 2^64 - 1, which is more than the 2^30 of question 37, so that 37 refuses the record where it
+-- stands
 unfoldable pub usedIn : List ℕ → ℕ
 usedIn numbers = if isBuilderNumbers numbers then getD numbers 3 0 else 18446744073709551615
 
