@@ -2,92 +2,6 @@
 // block list is refused, and the CRC-32 of the digits 1 to 9.
 use libc::STDOUT_FILENO;
 
-// The worked store's data, one block.
-const DATA: [u8; 82] = [
-    1,
-    0,
-    0,
-    0,
-    0,
-    2,
-    0,
-    0,
-    0,
-    3,
-    0,
-    0,
-    0,
-    7,
-    0,
-    0,
-    0,
-    0,
-    0,
-    0,
-    0,
-    97,
-    98,
-    120,
-    121,
-    122,
-    2,
-    2,
-    0,
-    0,
-    0,
-    0,
-    0,
-    0,
-    0,
-    0,
-    0,
-    0,
-    0,
-    3,
-    0,
-    0,
-    0,
-    0,
-    0,
-    0,
-    0,
-    1,
-    1,
-    0,
-    0,
-    0,
-    1,
-    0,
-    0,
-    0,
-    0,
-    0,
-    0,
-    0,
-    5,
-    0,
-    0,
-    0,
-    0,
-    0,
-    0,
-    0,
-    99,
-    0,
-    0,
-    0,
-    0,
-    1,
-    0,
-    0,
-    0,
-    0,
-    169,
-    146,
-    60,
-    65,
-];
-
 // Writes a line: a label, and a number or a refusal.
 fn line(label: &[u8], refused: u64, number: u64) {
     io::write_all(STDOUT_FILENO, label);
@@ -132,11 +46,12 @@ fn main() {
     line(b"prefix 24: ", refused, len);
     let mut scratch = [0u8; 4];
     let mut record = [0u64; 16];
-    let data = DATA;
+    let data =
+        b"\x01\x00\x00\x00\x00\x02\x00\x00\x00\x03\x00\x00\x00\x07\x00\x00\x00\x00\x00\x00\x00abxyz\x02\x02\x00\x00\x00\x00\x00\x00\x00\x00\x00\x00\x00\x03\x00\x00\x00\x00\x00\x00\x00\x01\x01\x00\x00\x00\x01\x00\x00\x00\x00\x00\x00\x00\x05\x00\x00\x00\x00\x00\x00\x00c\x00\x00\x00\x00\x01\x00\x00\x00\x00\xa9\x92\x3c\x41";
     let blocks = [0u64, 82];
-    let opened = kiban::kiban_open(&output, &data, &blocks, &mut scratch, &mut record);
+    let opened = kiban::kiban_open(&output, data, &blocks, &mut scratch, &mut record);
     line(b"opened with keys: ", opened, record[2]);
-    let none = kiban::kiban_open(&output, &data, &blocks[0..0], &mut scratch, &mut record);
+    let none = kiban::kiban_open(&output, data, &blocks[0..0], &mut scratch, &mut record);
     line(b"empty block list: ", none, 0);
     let long = build(25, &mut output, &mut len);
     line(b"prefix 25: ", long, len);
