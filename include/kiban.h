@@ -57,5 +57,24 @@ uint64_t kiban_size(const uint64_t builder[16], uint64_t prefix, uint64_t *size)
 uint64_t kiban_write(const uint8_t *area, size_t area_len, const uint64_t builder[16], uint64_t prefix,
                      uint64_t *scratch64, size_t scratch64_len, uint32_t *scratch32, size_t scratch32_len,
                      uint8_t *output, size_t output_len, uint64_t *len);
+/* A block's pair of the block list, and three places in the block: where its entries end, where its restart offsets start, and
+ * how many they are. */
+struct kiban_block_record {
+    uint64_t offset;
+    uint64_t len;
+    uint64_t entries_end;
+    uint64_t restart_start;
+    uint64_t num_restarts;
+};
+
+/* Writes a record for each pair of the block list, in its order, once every pair passes 11 and 12 and has a place (41,
+ * `records_len` places). On 0 `*count` is how many; records behind them stay as they were.
+ * It took 8,412 bytes of stack for the worked store's block, of which 8,192 are the CRC tables. */
+uint64_t kiban_fill_blocks(const uint8_t *data, size_t data_len, const uint64_t *blocks, size_t blocks_len,
+                           struct kiban_block_record *records, size_t records_len, uint64_t *count);
+
+/* The lowest place with that offset among the records given, which may be any part of a list, counted from its start;
+ * `records_len` if none has it. The result is a place and not a question's number. */
+uint64_t kiban_find_block(const struct kiban_block_record *records, size_t records_len, uint64_t offset);
 
 #endif

@@ -30,7 +30,7 @@ fitted : Inputs → List ℕ → ℕ → Answer Progress → Bool → Answer Pai
 fitted t pairs next a b = elim b [ true ↦ judged t pairs next a | false ↦ refused 11 ]
 
 pairs-step : (t : Inputs) (offset len : ℕ) (pairs : List ℕ) (at : ℕ) (p : Progress)
-    → pairsFrom t (offset ∷ len ∷ pairs) at p ≡ fitted t pairs (offset + len) (blockAsked t offset len p) (pairFits t at offset len)
+    → pairsFrom t (offset ∷ len ∷ pairs) at p ≡ fitted t pairs (offset + len) (blockAsked t offset len p) (pairFits (length (t .backing)) at offset len)
 unfolding pairsFrom fitted judged
 pairs-step t offset len pairs at p = refl
 
@@ -46,13 +46,13 @@ ended-fitted : (t : Inputs) (pairs : List ℕ) (next : ℕ) (a : Answer Progress
 unfolding fitted judged
 ended-fitted t pairs next a b o p q = rw (p, q)
 
-fits-facts : (t : Inputs) (at offset len : ℕ) → pairFits t at offset len ≡ true → (offset ≡ at) × (offset + len ≤ length (t .backing))
+fits-facts : (t : Inputs) (at offset len : ℕ) → pairFits (length (t .backing)) at offset len ≡ true → (offset ≡ at) × (offset + len ≤ length (t .backing))
 unfolding pairFits
 fits-facts t at offset len e =
     let b = both-true (eqb offset at) (leb (offset + len) (length (t .backing))) e in
     (eqb-true offset at (b .0), leb-true (offset + len) (length (t .backing)) (b .1))
 
-facts-fits : (t : Inputs) (at offset len : ℕ) → offset ≡ at → offset + len ≤ length (t .backing) → pairFits t at offset len ≡ true
+facts-fits : (t : Inputs) (at offset len : ℕ) → offset ≡ at → offset + len ≤ length (t .backing) → pairFits (length (t .backing)) at offset len ≡ true
 unfolding pairFits
 facts-fits t at offset len e h = true-both _ _ (eq-eqb offset at e) (le-leb (offset + len) (length (t .backing)) h)
 
@@ -64,7 +64,7 @@ pairs-covered t [] at p q e =
     (ap (λ (x : PairsEnd). x .at) z, entries-nil t p ∙ ap (λ (x : PairsEnd). given (x .progress)) z)
 pairs-covered t (offset ∷ []) at p q e = absurd (let z : _≡_ {A = ℕ} 0 1 = cc in omega arith)
 pairs-covered t (offset ∷ len ∷ pairs) at p q e =
-    let f = fitted-ended t pairs (offset + len) (blockAsked t offset len p) (pairFits t at offset len) (length (t .backing)) q
+    let f = fitted-ended t pairs (offset + len) (blockAsked t offset len p) (pairFits (length (t .backing)) at offset len) (length (t .backing)) q
     (sym (pairs-step t offset len pairs at p) ∙ e) in
     let fits = fits-facts t at offset len (f .0) in
     let o = f .1 .0 in
@@ -85,7 +85,7 @@ covered-pairs t (offset ∷ []) at p q c e = absurd c
 covered-pairs t (offset ∷ len ∷ pairs) at p q c e =
     let s = entries-split t (blockEntries (t .backing) offset len) (storeEntries (t .backing) pairs) p q e in
     pairs-step t offset len pairs at p
-    ∙ ended-fitted t pairs (offset + len) (blockAsked t offset len p) (pairFits t at offset len) (s .0) (facts-fits t at offset len (c .0) (c .1)) (passed-block t offset len p (s .0) (c .2) (s .1))
+    ∙ ended-fitted t pairs (offset + len) (blockAsked t offset len p) (pairFits (length (t .backing)) at offset len) (s .0) (facts-fits t at offset len (c .0) (c .1)) (passed-block t offset len p (s .0) (c .2) (s .1))
     ∙ covered-pairs t pairs (offset + len) (s .0) q (c .3) (s .2)
 
 -- the walk over the pairs ends at the end of the data exactly if the list covers the data and all records, as one list, pass;

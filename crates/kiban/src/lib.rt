@@ -19,6 +19,8 @@ ghost use Rattle.numbers.specs.BuilderNumbers.{builderIn};
 ghost use Rattle.kiban.specs.Written.{recordWritten, packedRecordWritten, packedLenWritten};
 ghost use Rattle.kiban.specs.Written.{lookupOf, answerWritten};
 ghost use Rattle.kiban.specs.Built.{offerFrom, builderWritten, sizeWritten, sectionLenWritten};
+ghost use Rattle.blocks.specs.Blocks.{fillOf, filledRead, filledNumber, filledCount, filledPlaces, findOf, foundPlace};
+use blocks::BlockRecord;
 use builder::Added;
 use builder::Sized;
 use header::HeaderRead;
@@ -226,4 +228,29 @@ pub extern "C" fn kiban_write(
         }
         Wrote::Refused(n) => n,
     }
+
+// Fills the block records of a list's pairs, in their order, and writes how many they are: 0, or the number of the first question
+// that is answered with no, which leaves records and count as they were. Further records stay as they were.
+#[no_mangle]
+pub extern "C" fn kiban_fill_blocks(
+    data: &[u8],
+    blocks: &[u64],
+    records: &mut [BlockRecord],
+    count: &mut u64,
+) -> u64
+    ensures { λ r. ⌜ (r ≡ filledNumber (filledRead (fillOf (now («data» .entry)) (now (blocks .entry)) (length (now (records .entry))))))
+        × (now (records .exit) ≡ filledPlaces (fillOf (now («data» .entry)) (now (blocks .entry)) (length (now (records .entry)))) (now (records .entry)))
+        × (now (count .exit) ≡ filledCount (filledRead (fillOf (now («data» .entry)) (now (blocks .entry)) (length (now (records .entry))))) (now (count .entry))) ⌝ }
+{
+    let filled = blocks::fill(data, blocks, records);
+    blocks::filled_number(filled, count)
+}
+
+// The lowest place with that offset in the records lent, or their number if there is none.
+#[no_mangle]
+pub extern "C" fn kiban_find_block(records: &[BlockRecord], offset: u64) -> u64
+    ensures { λ r. ⌜ r ≡ foundPlace (length (now (records .entry))) (findOf (now (records .entry)) offset) ⌝ }
+{
+    let found = blocks::find(records, offset);
+    blocks::found_place(found, records.len())
 }

@@ -158,7 +158,7 @@ unfolding pairsFrom blockAsked oneOf either
 pairs-own t [] at p = tt
 pairs-own t (offset ∷ []) at p = refl
 pairs-own t (offset ∷ len ∷ pairs) at p =
-    chosen (Gives openNumbers) (pairFits t at offset len) _ _ refl
+    chosen (Gives openNumbers) (pairFits (length (t .backing)) at offset len) _ _ refl
     (passed-on openNumbers (blockAsked t offset len p) (λ q. pairsFrom t pairs (offset + len) q) (block-own t offset p _ _) (λ q. pairs-own t pairs (offset + len) q))
 
 -- questions 22 and 23

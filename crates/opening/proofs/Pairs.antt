@@ -5,7 +5,7 @@ use mathlib.Core.List.{List, [], _∷_}
 use mathlib.Core.Bool.{Bool, true, false}
 use Prim.Native.Nat.{ℕ, suc, _+_, _-_, _%_, _<_, _≤_}
 use native.Mathlib.Omega.{arith}
-use lib.Dec.{leb, eqb}
+use lib.Dec.{leb}
 use lib.ListN.{length, getD, take, drop, drop-of-length-le}
 use lib.Seq.{drop-cons}
 use borrow.Author.Tests.{leb-true, leb-false, le-leb, lt-leb, eq-eqb}
@@ -33,8 +33,8 @@ use Rattle.validate.proofs.Entries.{entries-inside}
 -- ---- one pair
 
 -- question 11 by a difference
-pub fits-behind : (n at offset len : ℕ) → at ≤ n → offset ≡ at → leb len (n - at) ≡ both (eqb offset at) (leb (offset + len) n)
-unfolding both
+pub fits-behind : (n at offset len : ℕ) → at ≤ n → offset ≡ at → leb len (n - at) ≡ pairFits n at offset len
+unfolding pairFits both
 fits-behind n at offset len h e = rw (eq-eqb offset at e) (go (leb len (n - at)) refl)
   where
     go : (b : Bool) → leb len (n - at) ≡ b → b ≡ leb (offset + len) n
@@ -42,7 +42,8 @@ fits-behind n at offset len h e = rw (eq-eqb offset at e) (go (leb len (n - at))
     go false p = let l = leb-false len (n - at) p in sym (lt-leb (offset + len) n (omega arith))
 
 -- a pair that fits ends within the data
-pub fits-inside : (n at offset len : ℕ) → both (eqb offset at) (leb (offset + len) n) ≡ true → offset + len ≤ n
+pub fits-inside : (n at offset len : ℕ) → pairFits n at offset len ≡ true → offset + len ≤ n
+unfolding pairFits
 fits-inside n at offset len e = leb-true (offset + len) n (both-true _ _ e .1)
 
 -- the part of the data from an offset to its end
@@ -113,7 +114,7 @@ module _ (tables : List (List ℕ)) (s «data» : List ℕ) (o : Opened) (end ha
 
 -- ---- the pairs from a place on
 
-drop-pair : (blocks : List ℕ) (i : ℕ) → i + 1 < length blocks → drop i blocks ≡ getD blocks i 0 ∷ getD blocks (i + 1) 0 ∷ drop (i + 2) blocks
+pub drop-pair : (blocks : List ℕ) (i : ℕ) → i + 1 < length blocks → drop i blocks ≡ getD blocks i 0 ∷ getD blocks (i + 1) 0 ∷ drop (i + 2) blocks
 drop-pair blocks i h =
     let n : suc i ≡ i + 1 = omega arith in
     let m : suc (i + 1) ≡ i + 2 = omega arith in
@@ -146,17 +147,17 @@ module _ (t : Inputs) (blocks : List ℕ) where
 
     module _ (h : i + 1 < length blocks) where
       from-pair : tested (drop (i + 2) blocks) (getD blocks i 0 + getD blocks (i + 1) 0) (blockAsked t (getD blocks i 0) (getD blocks (i + 1) 0) st)
-          (pairFits t at (getD blocks i 0) (getD blocks (i + 1) 0)) ≡ answer
+          (pairFits (length (t .backing)) at (getD blocks i 0) (getD blocks (i + 1) 0)) ≡ answer
       unfolding pairsFrom tested after-block
       from-pair = sym (ap (λ (l : List ℕ). pairsFrom t l at st) (drop-pair blocks i h)) ∙ p .same
 
       -- question 11 fails
-      pub pairing-11 : pairFits t at (getD blocks i 0) (getD blocks (i + 1) 0) ≡ false → refused 11 ≡ answer
+      pub pairing-11 : pairFits (length (t .backing)) at (getD blocks i 0) (getD blocks (i + 1) 0) ≡ false → refused 11 ≡ answer
       unfolding tested after-block
       pairing-11 e =
           sym (ap (tested (drop (i + 2) blocks) (getD blocks i 0 + getD blocks (i + 1) 0) (blockAsked t (getD blocks i 0) (getD blocks (i + 1) 0) st)) e) ∙ from-pair
 
-      module _ (e : pairFits t at (getD blocks i 0) (getD blocks (i + 1) 0) ≡ true) where
+      module _ (e : pairFits (length (t .backing)) at (getD blocks i 0) (getD blocks (i + 1) 0) ≡ true) where
         from-block : after-block (drop (i + 2) blocks) (getD blocks i 0 + getD blocks (i + 1) 0) (blockAsked t (getD blocks i 0) (getD blocks (i + 1) 0) st) ≡ answer
         unfolding tested
         from-block =
@@ -170,7 +171,7 @@ module _ (t : Inputs) (blocks : List ℕ) where
         -- a block is passed
         pub pairing-more : (after : Progress) → blockAsked t (getD blocks i 0) (getD blocks (i + 1) 0) st ≡ given after
             → Pairing t blocks answer (i + 2) (getD blocks i 0 + getD blocks (i + 1) 0) after
-        unfolding after-block pairFits
+        unfolding after-block
         pairing-more after q =
             record {
               even = omega (arith, p .even);

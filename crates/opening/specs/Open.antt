@@ -64,9 +64,9 @@ blockFor t offset p raw (Sound m) = recordsAsked t offset p (recordsOf raw)
 unfoldable pub blockAsked : Inputs → ℕ → ℕ → Progress → Answer Progress
 blockAsked t offset len p = blockFor t offset p (blockBytes (t .backing) offset len) (verifyOf (blockBytes (t .backing) offset len))
 
--- question 11 of one pair: does it begin at the last one's end and finish within the data?
-unfoldable pub pairFits : Inputs → ℕ → ℕ → ℕ → Bool
-pairFits t at offset len = both (eqb offset at) (leb (offset + len) (length (t .backing)))
+-- question 11 of one pair: does it begin at the last one's end and finish within data of a length?
+unfoldable pub pairFits : ℕ → ℕ → ℕ → ℕ → Bool
+pairFits size at offset len = both (eqb offset at) (leb (offset + len) size)
 
 -- where the pairs end in the data, and what is carried on behind their records
 pub record PairsEnd : Type 0 where
@@ -78,7 +78,7 @@ unfoldable pub pairsFrom : Inputs → List ℕ → ℕ → Progress → Answer P
 pairsFrom t [] at p = given (record { at = at; progress = p })
 pairsFrom t (offset ∷ []) at p = refused 11
 pairsFrom t (offset ∷ len ∷ pairs) at p =
-    elim (pairFits t at offset len) [
+    elim (pairFits (length (t .backing)) at offset len) [
       | false ↦ refused 11
       | true ↦ elim (blockAsked t offset len p) [ given q ↦ pairsFrom t pairs (offset + len) q | refused n ↦ refused n ]
     ]

@@ -8,11 +8,11 @@ ghost use Rattle.crc32.specs.Table.{isTable};
 ghost use Rattle.header.specs.declared.HeaderRead.the-variants.{Accepted};
 ghost use Rattle.header.specs.Header.{headerOf};
 ghost use Rattle.arena.specs.Internal.{Readable};
-ghost use lib.Dec.{eqb, leb};
+ghost use lib.Dec.{eqb};
 ghost use Rattle.num.specs.Number.{leAt};
 ghost use Rattle.num.specs.Choice.{both, either};
 ghost use Rattle.num.specs.Answer.{given};
-ghost use Rattle.opening.specs.Open.{pilotInside, pilotsInside, startAt, blockAsked, pairsFrom, endFor, contentsOf, checkedHeaderOf, openOf};
+ghost use Rattle.opening.specs.Open.{pilotInside, pilotsInside, startAt, blockAsked, pairFits, pairsFrom, endFor, contentsOf, checkedHeaderOf, openOf};
 ghost use Rattle.validate.specs.Internal.{inputsWith, progressIn, Ready, blockHeld, answerFor};
 ghost use Rattle.opening.specs.Internal.{endedFor};
 use arena::Cursor;
@@ -97,9 +97,9 @@ fn open_pair(
 }
 
 // Question 11 of a pair behind a place of the data.
-fn pair_fits(data_len: usize, at: usize, offset: usize, len: usize) -> bool
+pub fn pair_fits(data_len: usize, at: usize, offset: usize, len: usize) -> bool
     requires { ⌜ at ≤ «data_len» ⌝ }
-    ensures { λ r. ⌜ r ≡ both (eqb offset at) (leb (offset + len) «data_len») ⌝ }
+    ensures { λ r. ⌜ r ≡ pairFits «data_len» at offset len ⌝ }
 {
     if offset != at {
         return false;

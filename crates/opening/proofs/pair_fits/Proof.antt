@@ -1,11 +1,13 @@
 use borrow.Author.Tests.{ne-eqb}
 use Rattle.num.proofs.Choice.{both-no}
+use Rattle.opening.specs.Open.{pairFits}
 use Rattle.opening.proofs.Pairs.{fits-behind}
 use borrow.Author.Needs.{needs}
 use Rattle.opening.proofs.pair_fits.Statement.{statement}
 use Rattle.opening.proofs.pair_fits.Tie as tie
 
 returns : tie.Need-returns
+unfolding pairFits
 returns c = both-no _ _ (ne-eqb _ _ (c .if1 .taken))
 
 sub-result : tie.Need-sub-result

@@ -1,0 +1,4 @@
+pub mod Pairs
+pub mod Writing
+pub mod Finding
+pub mod Walk
