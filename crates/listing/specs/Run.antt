@@ -10,9 +10,9 @@ use Rattle.listing.specs.Listing.{numbersIn, outputOf}
 use Rattle.listing.specs.Internal.{textLeft, Continues}
 
 -- lines one behind the other
-unfoldable pub joined : List (List ℕ) → List ℕ
-joined [] = []
-joined (l ∷ ls) = l ++ joined ls
+unfoldable pub linesJoined : List (List ℕ) → List ℕ
+linesJoined [] = []
+linesJoined (l ∷ ls) = l ++ linesJoined ls
 
 -- the lines of a run: each was written by a step as the contract of `next_line` says, until nothing was left
 pub data Run (sectionLen : ℕ) («data» blocks : List ℕ) : Left → List ℕ → List (List ℕ) → Type 0 where
@@ -22,10 +22,10 @@ pub data Run (sectionLen : ℕ) («data» blocks : List ℕ) : Left → List ℕ
       → Run sectionLen «data» blocks next after lines
       → Run sectionLen «data» blocks left keys (line ∷ lines)
 
--- the lines of every run from what the contract of `start` says, joined, are what is to be printed of the three files
+-- the lines of every run from what the contract of `start` says, linesJoined, are what is to be printed of the three files
 unfoldable pub RunsPrint : Type 0
 RunsPrint =
     (whole : Bool) (s «data» file keys : List ℕ) (left : Left) (lines : List (List ℕ))
     → textLeft (length s) «data» (numbersIn file) left keys ≡ outputOf whole s «data» file
     → Run (length s) «data» (numbersIn file) left keys lines
-    → joined lines ≡ outputOf whole s «data» file
+    → linesJoined lines ≡ outputOf whole s «data» file
