@@ -1,4 +1,4 @@
--- The lines of a run, linesJoined, are what was left to print at its start.
+-- The lines of a run, joined, are what was left to print at its start.
 -- Assumes nothing.
 use mathlib.Core.Path.{_≡_, refl, sym, ap, _∙_}
 use mathlib.Core.List.{List, _++_}

@@ -22,7 +22,7 @@ pub data Run (sectionLen : ℕ) («data» blocks : List ℕ) : Left → List ℕ
       → Run sectionLen «data» blocks next after lines
       → Run sectionLen «data» blocks left keys (line ∷ lines)
 
--- the lines of every run from what the contract of `start` says, linesJoined, are what is to be printed of the three files
+-- the lines of every run from what the contract of `start` says, joined, are what is to be printed of the three files
 unfoldable pub RunsPrint : Type 0
 RunsPrint =
     (whole : Bool) (s «data» file keys : List ℕ) (left : Left) (lines : List (List ℕ))
