@@ -12,7 +12,7 @@ use Rattle.writer.specs.Write.{storedAt, storedFrom, groupAt, groupsFrom, group
 
 -- ---- the versions of a key
 
-stored-length : (count : ℕ) (area : List ℕ) (place : ℕ) → length (storedFrom count area place) ≡ count
+pub stored-length : (count : ℕ) (area : List ℕ) (place : ℕ) → length (storedFrom count area place) ≡ count
 unfolding storedFrom
 stored-length zero area place = refl
 stored-length (suc count) area place = ap suc (stored-length count area (place + areaVersionLen))

@@ -25,11 +25,11 @@ use Rattle.measuring.proofs.Groups.{count-in, keys-in, end-in, key-in, 
 use Rattle.measuring.proofs.Reading.{area-measured}
 
 module _ (area : List ℕ) (r : Builder) (bytes : Bytes area) (k : KeysMeasured area (r .totals .keys) r) where
-  key-below : (i : ℕ) → i < length (groupsIn area (r .totals .keys)) → i < r .totals .keys
+  pub key-below : (i : ℕ) → i < length (groupsIn area (r .totals .keys)) → i < r .totals .keys
   key-below i h = omega (arith, count-in area (r .totals .keys))
 
   -- what holds of the version at each place holds of the groups' versions
-  each-version : (P : StoredVersion → Type 0)
+  pub each-version : (P : StoredVersion → Type 0)
       → ((place : ℕ) → VersionWithin area (r .totals) place → P (storedAt area place))
       → (i j : ℕ) → i < length (groupsIn area (r .totals .keys)) → j < length (groupVersions (groupsIn area (r .totals .keys)) i)
       → P (groupVersion (groupsIn area (r .totals .keys)) i j)
