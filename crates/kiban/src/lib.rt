@@ -228,6 +228,7 @@ pub extern "C" fn kiban_write(
         }
         Wrote::Refused(n) => n,
     }
+}
 
 // Fills the block records of a list's pairs, in their order, and writes how many they are: 0, or the number of the first question
 // that is answered with no, which leaves records and count as they were. Further records stay as they were.
