@@ -18,7 +18,7 @@ use Rattle.building.specs.State.{RunsKeep}
 use Rattle.building.proofs.State.{runs-keep}
 use Rattle.numbers.specs.BuilderNumbers.{builderNumbers, builderIn}
 use Rattle.numbers.proofs.BuilderNumbers.{builder-read}
-use Rattle.kiban.specs.Built.{builderWritten}
+use Rattle.builds.specs.Built.{builderWritten}
 use Rattle.calls.specs.Calls.{place}
 use Rattle.buildcalls.specs.BuildCalls.{offered, adds, AddCall, Memory, noEntries, AsLeft, leftBy, takenWith, AddCalls, none, next}
 use Rattle.buildcalls.proofs.Answers.{not-both, same-offer, added, added-left}

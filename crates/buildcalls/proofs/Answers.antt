@@ -13,7 +13,7 @@ use Rattle.numbers.specs.BuilderNumbers.{builderNumbers, builderIn}
 use Rattle.numbers.proofs.BuilderNumbers.{builder-stands}
 use Rattle.numbered.specs.Numbers.{AddsNumbered, WritesNumbered}
 use Rattle.numbered.proofs.Numbers.{adds-numbered, writes-numbered}
-use Rattle.kiban.specs.Built.{offerFrom, builderWritten, sectionLenWritten}
+use Rattle.builds.specs.Built.{offerFrom, builderWritten, sectionLenWritten}
 use Rattle.buildcalls.specs.BuildCalls.{AddLent, offered, adds, AddCall, writes, WriteCall}
 
 pub same-given : {A : Type 0} {a b : A} → given a ≡ given b → a ≡ b

@@ -8,7 +8,7 @@ use Rattle.builder.specs.Record.{sizedRead, sizedNumber}
 use Rattle.builder.specs.Add.{BuilderState, addedRead, addedNumber, addedArea}
 use Rattle.writer.specs.Write.{sectionWritten}
 use Rattle.writing.specs.Wrote.{wroteRead, wroteNumber}
-use Rattle.kiban.specs.Built.{builderWritten, sizeWritten, sectionLenWritten}
+use Rattle.builds.specs.Built.{builderWritten, sizeWritten, sectionLenWritten}
 use Rattle.buildcalls.specs.BuildCalls.{adds, writes, BuildRefusalsWriteNothing}
 
 add-kept : (x : Answer BuilderState) (area numbers : List ℕ) → (addedNumber (addedRead x) ≡ 0 → ⊥)

@@ -27,7 +27,7 @@ use Rattle.building.proofs.State.{runs-keep}
 use Rattle.building.proofs.Writing.{writes-exactly}
 use Rattle.building.proofs.Promises.{size-is-length, same-sections}
 use Rattle.numbers.specs.BuilderNumbers.{builderNumbers, builderIn}
-use Rattle.kiban.specs.Built.{sizeWritten}
+use Rattle.builds.specs.Built.{sizeWritten}
 use Rattle.buildcalls.specs.BuildCalls.{SizeCall, writes, WriteCall, Memory, AsLeft, numbersFor, AddsKeep, WriteCalls, Built, SizeCalls, SameSectionCalls}
 use Rattle.buildcalls.proofs.Answers.{same-given, not-both, refused-add, wrote, wrote-left}
 use Rattle.buildcalls.proofs.Adds.{Leaves, same-builder, same-area, lending, same-add, run-of}

@@ -20,7 +20,7 @@ use Rattle.building.specs.Taken.{groupsOf, areaOf, groupTotals, builderOf}
 use Rattle.building.specs.InOrder.{InOrder, HoldsJust, ScratchHolds, SameAdded}
 use Rattle.building.specs.Builds.{sizeFor, Outcome}
 use Rattle.numbers.specs.BuilderNumbers.{builderIn}
-use Rattle.kiban.specs.Built.{offerFrom, builderWritten, sizeWritten, sectionLenWritten}
+use Rattle.builds.specs.Built.{offerFrom, builderWritten, sizeWritten, sectionLenWritten}
 use Rattle.calls.specs.Calls.{place, Lent, OpenCall, PackCall, Linker, openedPlain, openedPacked, holding, blocksHeld, LookupCall, LinkedAlike, scanNumber, packedSize}
 
 -- ---- calls

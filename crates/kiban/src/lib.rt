@@ -1,11 +1,7 @@
 // The delivered interface, for Rattle, C and Rust. No entry has a `requires`.
 ghost use mathlib.Core.Path.{_≡_};
-ghost use mathlib.Core.Bool.{true, false};
-ghost use lib.Dec.{eqb};
 ghost use lib.ListN.{length};
-ghost use Rattle.num.specs.Choice.{if_then_else_};
 ghost use Rattle.crc32.specs.V42.{crcOf};
-ghost use Rattle.sstable.specs.declared.Kind.the-variants.{Put, Tombstone};
 ghost use Rattle.builder.specs.Record.{sizeOfSection, sizedRead, sizedNumber};
 ghost use Rattle.builder.specs.Add.{addOf, addedRead, addedNumber, addedArea};
 ghost use Rattle.header.specs.Header.{headerNumber};
@@ -18,16 +14,12 @@ ghost use Rattle.writing.specs.Wrote.{wroteRead, wroteNumber};
 ghost use Rattle.numbers.specs.BuilderNumbers.{builderIn};
 ghost use Rattle.kiban.specs.Written.{recordWritten, packedRecordWritten, packedLenWritten};
 ghost use Rattle.kiban.specs.Written.{lookupOf, answerWritten};
-ghost use Rattle.kiban.specs.Built.{offerFrom, builderWritten, sizeWritten, sectionLenWritten};
+ghost use Rattle.builds.specs.Built.{offerFrom, builderWritten, sizeWritten, sectionLenWritten};
 ghost use Rattle.blocks.specs.Blocks.{fillOf, filledRead, filledNumber, filledCount, filledPlaces, findOf, foundPlace};
 use blocks::BlockRecord;
-use builder::Added;
-use builder::Sized;
 use header::HeaderRead;
 use locator::Located;
 use packing::PackedRead;
-use sstable::Kind;
-use writing::Wrote;
 
 // The CRC-32 of the bytes: the 32-bit frame check sequence of ITU-T V.42.
 #[no_mangle]
@@ -138,22 +130,6 @@ pub fn value(data: &[u8], offset: u64, length: u64) -> &[u8]
     lookup::value(data, offset, length)
 }
 
-fn kind_from(tombstone: u64) -> Kind
-    ensures { λ r. ⌜ r ≡ (if eqb tombstone 0 then Put else Tombstone) ⌝ }
-{
-    if tombstone == 0 {
-        Kind::Put
-    } else {
-        Kind::Tombstone
-    }
-}
-
-fn marked_new(new_key: u64) -> bool
-    ensures { λ r. ⌜ r ≡ (if eqb «new_key» 0 then false else true) ⌝ }
-{
-    new_key != 0
-}
-
 // Adds an entry to the area and to the builder's record beside it: a Put or a tombstone, of the last key or of a new one, whose value
 // stands at an offset of the data. 0, or the number of the first question that is answered with no, which leaves both as they were.
 #[no_mangle]
@@ -171,17 +147,16 @@ pub extern "C" fn kiban_add(
         × (now (area .exit) ≡ addedArea (addOf (now (area .entry)) (builderIn (now (builder .entry))) (offerFrom tombstone (now (key .entry)) (now (value .entry)) sequence «new_key» offset)) (now (area .entry)))
         × (now (builder .exit) ≡ builderWritten (addOf (now (area .entry)) (builderIn (now (builder .entry))) (offerFrom tombstone (now (key .entry)) (now (value .entry)) sequence «new_key» offset)) (now (builder .entry))) ⌝ }
 {
-    let b = numbers::read_builder(builder);
-    let kind = kind_from(tombstone);
-    let new = marked_new(new_key);
-    let added = adding::add(area, b, kind, key, value, sequence, new, offset);
-    match added {
-        Added::Taken(after) => {
-            numbers::write_builder(after, builder);
-            0
-        }
-        Added::Refused(n) => n,
-    }
+    builds::add(
+        area,
+        builder,
+        tombstone,
+        key,
+        value,
+        sequence,
+        new_key,
+        offset,
+    )
 }
 
 // Tells how many bytes the section of a builder will have with a scan prefix: 0, or 37, which leaves the size as it was.
@@ -190,15 +165,7 @@ pub extern "C" fn kiban_size(builder: &[u64; 16], prefix: u64, size: &mut u64) -
     ensures { λ r. ⌜ (r ≡ sizedNumber (sizedRead (sizeOfSection (builderIn (now (builder .entry))) prefix)))
         × (now (size .exit) ≡ sizeWritten (sizeOfSection (builderIn (now (builder .entry))) prefix) (now (size .entry))) ⌝ }
 {
-    let b = numbers::read_builder(builder);
-    let sized = builder::size(b, prefix);
-    match sized {
-        Sized::Bytes(n) => {
-            *size = n;
-            0
-        }
-        Sized::Refused(n) => n,
-    }
+    builds::size(builder, prefix, size)
 }
 
 // Writes the section of a builder with a scan prefix, and how many bytes it has: 0, or the number of the first question that is
@@ -219,15 +186,7 @@ pub extern "C" fn kiban_write(
         × (length (now (scratch64 .exit)) ≡ length (now (scratch64 .entry)))
         × (length (now (scratch32 .exit)) ≡ length (now (scratch32 .entry))) ⌝ }
 {
-    let b = numbers::read_builder(builder);
-    let wrote = writing::write(area, b, prefix, scratch64, scratch32, output);
-    match wrote {
-        Wrote::Bytes(n) => {
-            *len = n;
-            0
-        }
-        Wrote::Refused(n) => n,
-    }
+    builds::write(area, builder, prefix, scratch64, scratch32, output, len)
 }
 
 // Fills the block records of a list's pairs, in their order, and writes how many they are: 0, or the number of the first question

@@ -6,10 +6,10 @@ use Rattle.num.specs.Answer.{Answer}
 use Rattle.builder.specs.declared.Builder.{Builder}
 use Rattle.writer.specs.Write.{writeOf, sectionWritten}
 use Rattle.writing.specs.Wrote.{wroteRead}
-use Rattle.kiban.proofs.BuildOutcomes.{wrote-bytes, wrote-refused}
+use Rattle.builds.proofs.Outcomes.{wrote-bytes, wrote-refused}
 use borrow.Author.Needs.{needs}
-use Rattle.kiban.proofs.kiban_write.Statement.{statement}
-use Rattle.kiban.proofs.kiban_write.Tie as tie
+use Rattle.builds.proofs.write.Statement.{statement}
+use Rattle.builds.proofs.write.Tie as tie
 
 read-builder-requires : tie.Need-read-builder-requires
 read-builder-requires c κs = search needs
@@ -67,8 +67,8 @@ returns-2 c =
     let said = wrote-refused _ _ _ (s .len .now) (call .ensures .0 ∙ ap wroteRead e) (arm .1) in
     (said .0, call .ensures .1 .0 ∙ ap (λ (y : Answer (List ℕ)). sectionWritten y (s .output .now)) e, said .1, call .ensures .1 .1 .0, call .ensures .1 .1 .1)
 
-pub kiban-write-spec : {M : Type 1} → statement M
-kiban-write-spec =
+pub write-spec : {M : Type 1} → statement M
+write-spec =
     tie.close
     (tie.spec
     read-builder-requires

@@ -1,7 +1,7 @@
 use lib.Dec.{eqb}
-use Rattle.kiban.proofs.BuildOutcomes.{not-if}
-use Rattle.kiban.proofs.marked_new.Statement.{statement}
-use Rattle.kiban.proofs.marked_new.Tie as tie
+use Rattle.builds.proofs.Outcomes.{not-if}
+use Rattle.builds.proofs.marked_new.Statement.{statement}
+use Rattle.builds.proofs.marked_new.Tie as tie
 
 returns : tie.Need-returns
 returns c = not-if (eqb (c .args .new-key) 0)

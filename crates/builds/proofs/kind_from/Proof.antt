@@ -1,7 +1,7 @@
 use borrow.Author.Tests.{eq-eqb, ne-eqb}
 use Rattle.num.specs.Choice.{if_then_else_}
-use Rattle.kiban.proofs.kind_from.Statement.{statement}
-use Rattle.kiban.proofs.kind_from.Tie as tie
+use Rattle.builds.proofs.kind_from.Statement.{statement}
+use Rattle.builds.proofs.kind_from.Tie as tie
 
 returns : tie.Need-returns
 unfolding if_then_else_

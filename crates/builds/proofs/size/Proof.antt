@@ -1,10 +1,10 @@
 use mathlib.Core.Path.{ap, _∙_}
 use Rattle.builder.specs.declared.Builder.{Builder}
 use Rattle.builder.specs.Record.{sizeOfSection, sizedRead}
-use Rattle.kiban.proofs.BuildOutcomes.{sized-told, sized-refused}
+use Rattle.builds.proofs.Outcomes.{sized-told, sized-refused}
 use borrow.Author.Needs.{needs}
-use Rattle.kiban.proofs.kiban_size.Statement.{statement}
-use Rattle.kiban.proofs.kiban_size.Tie as tie
+use Rattle.builds.proofs.size.Statement.{statement}
+use Rattle.builds.proofs.size.Tie as tie
 
 read-builder-requires : tie.Need-read-builder-requires
 read-builder-requires c κs = search needs
@@ -34,8 +34,8 @@ returns-2 c =
     let arm = c .before .sized2 .given in
     sized-refused _ _ _ (s .size .now) said (arm .1)
 
-pub kiban-size-spec : {M : Type 1} → statement M
-kiban-size-spec =
+pub size-spec : {M : Type 1} → statement M
+size-spec =
     tie.close
     (tie.spec
     read-builder-requires

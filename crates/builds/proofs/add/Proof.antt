@@ -1,10 +1,10 @@
 use mathlib.Core.Path.{ap, _∙_}
 use Rattle.num.specs.Answer.{Answer}
 use Rattle.builder.specs.Add.{BuilderState, addedRead, addedArea}
-use Rattle.kiban.proofs.BuildOutcomes.{same-add, added-taken, added-refused}
+use Rattle.builds.proofs.Outcomes.{same-add, added-taken, added-refused}
 use borrow.Author.Needs.{needs}
-use Rattle.kiban.proofs.kiban_add.Statement.{statement}
-use Rattle.kiban.proofs.kiban_add.Tie as tie
+use Rattle.builds.proofs.add.Statement.{statement}
+use Rattle.builds.proofs.add.Tie as tie
 
 read-builder-requires : tie.Need-read-builder-requires
 read-builder-requires c κs = search needs
@@ -63,8 +63,8 @@ returns-2 c =
     let said = added-refused _ _ _ (s .builder .now) (call .ensures .0 ∙ ap addedRead e) (arm .1) in
     (said .0, call .ensures .1 ∙ ap (λ (y : Answer BuilderState). addedArea y (s .area .now)) e, said .1)
 
-pub kiban-add-spec : {M : Type 1} → statement M
-kiban-add-spec =
+pub add-spec : {M : Type 1} → statement M
+add-spec =
     tie.close
     (tie.spec
     read-builder-requires

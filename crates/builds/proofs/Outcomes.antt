@@ -22,7 +22,7 @@ use Rattle.writing.specs.declared.Wrote.{Wrote}
 use Rattle.writing.specs.declared.Wrote.the-variants as wrote
 use Rattle.writing.specs.Wrote.{wroteRead, wroteNumber}
 use Rattle.numbers.specs.BuilderNumbers.{builderNumbers, builderIn}
-use Rattle.kiban.specs.Built.{offerFrom, builderWritten, sizeWritten, sectionLenWritten}
+use Rattle.builds.specs.Built.{offerFrom, builderWritten, sizeWritten, sectionLenWritten}
 
 -- ---- adding
 
