@@ -1,4 +1,4 @@
-//! Measures our library and the Rust on the same inputs. usage: bench [--rounds N]
+//! Measures our library and the Rust on the same inputs. usage: bench [--rounds N] [--only TEXT]
 // A row that is left out leaves its helpers unused.
 #![allow(dead_code, unused_imports)]
 
@@ -24,7 +24,7 @@ use rng::Rng;
 // Rows are built only if the archive has their function: the script passes its names as `has`.
 macro_rules! rows {
     ($rng:expr, $($symbol:literal: $rows:path;)*) => {{
-        let mut all = Vec::new();
+        let mut all: Vec<measure::Row> = Vec::new();
         $(
             #[cfg(has = $symbol)]
             all.extend($rows($rng));
@@ -35,22 +35,27 @@ macro_rules! rows {
     }};
 }
 
-fn rounds() -> usize {
+/// How many rounds, and what the names of the rows to measure have in them.
+fn asked() -> (usize, String) {
+    let (mut rounds, mut only) = (201, String::new());
     let words: Vec<String> = std::env::args().skip(1).collect();
-    match words.iter().map(String::as_str).collect::<Vec<_>>()[..] {
-        [] => 201,
-        ["--rounds", n] if n.parse().is_ok_and(|n: usize| n > 0) => n.parse().expect("a number"),
-        _ => {
-            eprintln!("usage: bench [--rounds N]");
-            std::process::exit(2)
+    for pair in words.chunks(2) {
+        match pair.iter().map(String::as_str).collect::<Vec<_>>()[..] {
+            ["--rounds", n] if n.parse().is_ok_and(|n: usize| n > 0) => rounds = n.parse().expect("a number"),
+            ["--only", text] => only = text.into(),
+            _ => {
+                eprintln!("usage: bench [--rounds N] [--only TEXT]");
+                std::process::exit(2)
+            }
         }
     }
+    (rounds, only)
 }
 
 fn main() {
-    let rounds = rounds();
+    let (rounds, only) = asked();
     let rng = &mut Rng::part(1, "bench", 0);
-    let rows = rows! { rng,
+    let mut rows = rows! { rng,
         "probe_crc32_lent": leaves::crc_lent;
         "kiban_crc32": leaves::crc;
         "probe_hash": leaves::hash;
@@ -61,6 +66,7 @@ fn main() {
         "probe_construct": construct::rows;
         "kiban_write": building::rows;
     };
+    rows.retain(|row| row.name.contains(&only));
     println!("{rounds} interleaved rounds, medians, per call or per record");
     measure::measure(rows, rounds);
 }

@@ -1,4 +1,4 @@
-//! Interleaved runs of both sides, and their medians.
+//! Interleaved runs of both sides, their medians, and the median of the ratios of each round.
 use std::hint::black_box;
 use std::time::Duration;
 
@@ -127,7 +127,7 @@ fn print(row: &Row, times: &mut Times) {
     let (ours, rust) = (median(&mut times.ours) / units, median(&mut times.rust) / units);
     let (ratio, rounds) = (ours / rust, median(&mut ratios));
     let limit = match row.limit {
-        Some(limit) if ratio > limit => format!("{limit:.2}, not reached"),
+        Some(limit) if rounds > limit => format!("{limit:.2}, not reached"),
         Some(limit) => format!("{limit:.2}"),
         None => String::new(),
     };

@@ -1,5 +1,6 @@
 //! Opening and lookup on stores of 20-byte keys with one version each and 32-byte values; lookup of 16-byte keys too,
-//! whose hash has no last odd bytes.
+//! whose hash has no last odd bytes, also of more different ones than a processor learns by heart, and in sections with a scan part or
+//! with other widths than most have.
 use crate::blocks::{Entry, block};
 use crate::measure::{Row, Work, repeated, row, thousands};
 use crate::ours::{self, Record};
@@ -15,6 +16,12 @@ const SIZES: [usize; 2] = [1_000, 100_000];
 const KEY: usize = 20;
 const WHOLE_KEY: usize = 16;
 const VALUE: usize = 32;
+const PREFIX: usize = 4;
+const MANY: usize = 65_536;
+/// A value so long that the lengths of values take four bytes.
+const LONG_VALUE: usize = 33_000;
+/// The greatest ratio that a lookup is to reach.
+const LOOKUP: Option<f64> = Some(1.05);
 const PER_BLOCK: usize = 50;
 /// No sequence is above it.
 const LIMIT: u64 = 0xffff;
@@ -29,10 +36,16 @@ struct Store {
 
 impl Store {
     fn new(rng: &mut Rng, count: usize, key: usize) -> Rc<Self> {
+        Self::with(rng, count, key, 0, VALUE)
+    }
+
+    /// With a scan part, unless the prefix is 0, and with a first value of another length.
+    fn with(rng: &mut Rng, count: usize, key: usize, prefix: usize, first: usize) -> Rc<Self> {
         let mut keys: Vec<Vec<u8>> = (0..count).map(|_| rng.bytes(key)).collect();
         keys.sort();
         let mut entry = |key| Entry { kind: 1, key, value: rng.bytes(VALUE), sequence: rng.next() & LIMIT };
-        let entries: Vec<Entry> = keys.into_iter().map(&mut entry).collect();
+        let mut entries: Vec<Entry> = keys.into_iter().map(&mut entry).collect();
+        entries[0].value.resize(first, 0);
         let (mut offsets, mut data, mut list) = (Vec::new(), Vec::new(), Vec::new());
         for part in entries.chunks(PER_BLOCK) {
             let (base, block) = (data.len() as u64, block(part, 16));
@@ -40,7 +53,7 @@ impl Store {
             list.extend([base, block.raw.len() as u64]);
             data.extend(block.raw);
         }
-        let section = rust_build(&entries, &offsets);
+        let section = rust_build(&entries, &offsets, prefix);
         Rc::new(Store { entries, offsets, section, data, list })
     }
 
@@ -64,8 +77,8 @@ impl Store {
     }
 }
 
-fn rust_build(entries: &[Entry], offsets: &[u64]) -> Vec<u8> {
-    let mut builder = Builder::new(0);
+fn rust_build(entries: &[Entry], offsets: &[u64], prefix: usize) -> Vec<u8> {
+    let mut builder = Builder::new(prefix);
     for (e, &offset) in entries.iter().zip(offsets) {
         builder.add(e.kind, &e.key, &e.value, e.sequence, true, offset).expect("taken");
     }
@@ -176,7 +189,7 @@ fn lookup_row(
             sum.wrapping_add(found.map_or(0, |v| weighed(v.sequence, v.offset, v.length, v.checksum.into())))
         })
     });
-    per_unit(name, units, ours, rust)
+    row(name, units, LOOKUP, ours, rust)
 }
 
 /// As many keys as are held, each once, in random order.
@@ -186,16 +199,31 @@ fn shuffled(store: &Store, rng: &mut Rng) -> Vec<u8> {
     keys.concat()
 }
 
+/// A name for a form of a store, and the index of that form.
+type Form = (&'static str, fn(&Store) -> Index);
+/// A name for some keys, the keys, and whether they are held.
+type Asked = (String, Vec<u8>, bool);
+
+const PLAIN: Form = ("plain", Store::plain);
+const PACKED: Form = ("packed", Store::packed);
+const SCANNED: Form = ("plain with a scan part", Store::plain);
+const WIDE: Form = ("plain with a long value", Store::plain);
+
+/// The held keys, and as many absent ones.
+fn held_and_absent(store: &Store, rng: &mut Rng) -> [Asked; 2] {
+    let bytes = store.entries.len() * store.entries[0].key.len();
+    [("hit".into(), shuffled(store, rng), true), ("absent".into(), rng.bytes(bytes), false)]
+}
+
 #[cfg(has = "kiban_lookup")]
-fn lookup_rows(rng: &mut Rng, count: usize, key: usize) -> Vec<Row> {
-    let store = Store::new(rng, count, key);
-    let (held, absent) = (shuffled(&store, rng), rng.bytes(count * key));
+fn lookup_rows(store: &Store, forms: &[Form], all: &[Asked]) -> Vec<Row> {
+    let (count, key) = (thousands(store.entries.len()), store.entries[0].key.len());
     let mut rows = Vec::new();
-    for (form, index) in [("plain", Store::plain as fn(&Store) -> Index), ("packed", Store::packed)] {
-        for (asked, keys, hit) in [("hit", &held, true), ("absent", &absent, false)] {
-            let name = format!("lookup, {form}, {} keys of {key} bytes, {asked}", thousands(count));
-            let index = index(&store);
-            rows.push(lookup_row(name, lent(&store, &index), index, keys.clone(), key, hit));
+    for (form, index) in forms {
+        for (asked, keys, held) in all {
+            let name = format!("lookup, {form}, {count} keys of {key} bytes, {asked}");
+            let index = index(store);
+            rows.push(lookup_row(name, lent(store, &index), index, keys.clone(), key, *held));
         }
     }
     rows
@@ -203,10 +231,17 @@ fn lookup_rows(rng: &mut Rng, count: usize, key: usize) -> Vec<Row> {
 
 #[cfg(has = "kiban_lookup")]
 pub fn lookups(rng: &mut Rng) -> Vec<Row> {
-    SIZES
-        .iter()
-        .map(|&count| (count, KEY))
-        .chain([(SIZES[0], WHOLE_KEY)])
-        .flat_map(|(count, key)| lookup_rows(rng, count, key))
-        .collect()
+    let mut rows = Vec::new();
+    for (count, key) in [(SIZES[0], KEY), (SIZES[1], KEY), (SIZES[0], WHOLE_KEY)] {
+        let store = Store::new(rng, count, key);
+        rows.extend(lookup_rows(&store, &[PLAIN, PACKED], &held_and_absent(&store, rng)));
+    }
+    let store = Store::new(rng, SIZES[0], WHOLE_KEY);
+    let many = (format!("{} absent", thousands(MANY)), rng.bytes(MANY * WHOLE_KEY), false);
+    rows.extend(lookup_rows(&store, &[PLAIN, PACKED], &[many]));
+    for (form, prefix, first) in [(SCANNED, PREFIX, VALUE), (WIDE, 0, LONG_VALUE)] {
+        let store = Store::with(rng, SIZES[0], WHOLE_KEY, prefix, first);
+        rows.extend(lookup_rows(&store, &[form], &held_and_absent(&store, rng)));
+    }
+    rows
 }

@@ -2,15 +2,15 @@
 -- Assumes nothing.
 use mathlib.Core.Path.{_≡_, refl, sym, ap, ap₂, _∙_}
 use mathlib.Core.Bool.{Bool, true, false}
-use mathlib.Core.List.{List, _∷_}
+use mathlib.Core.List.{List, [], _∷_}
 use Prim.Native.Nat.{ℕ, _+_, _*_, _-_, _^_, _<_, _≤_}
 use native.Mathlib.Omega.{arith}
 use lib.Dec.{eqb, leb}
 use lib.ListN.{length}
 use borrow.Author.Tests.{leb-true, le-leb, lt-leb, ltb-true, lt-ltb, le-ltb, eqb-true, eqb-false, eq-eqb, ne-eqb}
-use Rattle.num.specs.Choice.{either, oneOf}
+use Rattle.num.specs.Choice.{both, either, oneOf}
 use Rattle.num.specs.Number.{Bytes, leAt}
-use Rattle.num.proofs.Choice.{both-no, both-yes, both-true, true-both}
+use Rattle.num.proofs.Choice.{both-no, both-yes, both-true, true-both, same-truth}
 use Rattle.num.proofs.Parts.{equalBytes-number}
 use Rattle.num.proofs.Order.{equalBytes-true, equalBytes-same}
 use Rattle.encoding.specs.declared.Encoding.{Encoding}
@@ -51,6 +51,25 @@ pub yes-widths : (e : Encoding) → Widths e → allowedWidths e ≡ true
 unfolding allowedWidths
 yes-widths e w =
     true-both _ _ (w .address) (true-both _ _ (w .key) (true-both _ _ (w .count) (true-both _ _ (w .seq) (w .value))))
+
+first-of : (x : ℕ) (xs : List ℕ) (w : ℕ) → eqb w x ≡ true → oneOf (x ∷ xs) w ≡ true
+unfolding oneOf either
+first-of x xs w e = ap (λ (t : Bool). either t (oneOf xs w)) e
+
+-- where the other widths are the usual ones, that of sequences decides
+pub usual-allowed : (e : Encoding) → both (eqb (e .address) 4) (both (eqb (e .key) 1) (both (eqb (e .count) 1) (eqb (e .value) 2))) ≡ true
+    → oneOf (1 ∷ 2 ∷ 4 ∷ 8 ∷ []) (e .seq) ≡ allowedWidths e
+unfolding allowedWidths
+usual-allowed e t =
+    let a = both-true _ _ t in
+    let k = both-true _ _ (a .1) in
+    let n = both-true _ _ (k .1) in
+    same-truth _ _
+    (λ s. true-both _ _ (first-of 4 (8 ∷ []) (e .address) (a .0))
+    (true-both _ _ (first-of 1 (2 ∷ 4 ∷ []) (e .key) (k .0))
+    (true-both _ _ (first-of 1 (2 ∷ 4 ∷ []) (e .count) (n .0))
+    (true-both _ _ s (first-of 2 (4 ∷ []) (e .value) (n .1))))))
+    (λ s. both-true _ _ (both-true _ _ (both-true _ _ (both-true _ _ s .1) .1) .1) .0)
 
 -- a number from 1 below 3 is 1 or 2
 pub one-or-two : (xs : List ℕ) (w : ℕ) → 1 ≤ w → w < 3 → true ≡ oneOf (1 ∷ 2 ∷ xs) w

@@ -3,7 +3,8 @@ ghost use mathlib.Core.Path.{_≡_};
 ghost use mathlib.Core.List.{[], _∷_};
 ghost use Prim.Native.Nat.{_+_, _≤_, _<_};
 ghost use lib.ListN.{length};
-ghost use Rattle.num.specs.Choice.{oneOf};
+ghost use lib.Dec.{eqb};
+ghost use Rattle.num.specs.Choice.{both, oneOf};
 ghost use Rattle.header.specs.Header.{standsAt, begins, hasFlag, encodingAt, fieldsOf, allowedWidths, dimensions, scanPlaceOf, scanPart, scanSettings, scannedOf, headerOf, fitsPacked, packedRecord, arenaEnd};
 ghost use Rattle.header.specs.Facts.{Dimensions};
 use encoding::Encoding;
@@ -119,9 +120,19 @@ fn value_allowed(w: usize) -> bool
     }
 }
 
-fn allowed_widths(e: Encoding) -> bool
+// The widths, but for that of sequences, of most sections: fewer than 256 bytes to a key and versions of it, and short values.
+fn usual_widths(e: Encoding) -> bool
+    ensures { λ r. ⌜ r ≡ both (eqb (e .address) 4) (both (eqb (e .key) 1) (both (eqb (e .count) 1) (eqb (e .value) 2))) ⌝ }
+{
+    (e.address == 4) & ((e.key == 1) & ((e.count == 1) & (e.value == 2)))
+}
+
+pub fn allowed_widths(e: Encoding) -> bool
     ensures { λ r. ⌜ r ≡ allowedWidths e ⌝ }
 {
+    if usual_widths(e) {
+        return seq_allowed(e.seq);
+    }
     if !address_allowed(e.address) {
         return false;
     }

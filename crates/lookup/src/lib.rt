@@ -10,7 +10,7 @@ ghost use Rattle.encoding.specs.Encoding.{Widths, keyHeaderLenOf};
 ghost use Rattle.header.specs.Facts.{IsRecord};
 ghost use Rattle.arena.specs.Internal.{Narrow};
 ghost use Rattle.lookup.specs.Value.{valuePart, valueNumber};
-ghost use Rattle.lookup.specs.Lookup.{unpacked, pilotLen, pilotOf, slotLen, slotOffset, keyRecordOf, keyRecordAt, slotRead, locateOf};
+ghost use Rattle.lookup.specs.Lookup.{unpacked, pilotLen, pilotOf, slotLen, slotOffset, keyRecordOf, keyRecordAt, slotRead, hashRead};
 use arena::KeyHeader;
 use encoding::Encoding;
 use header::Opened;
@@ -179,15 +179,11 @@ fn slot_read(section: &[u8], o: Opened, key: &[u8], limit: u64, h: u64, at: usiz
     key_of_address(section, o, key, limit, address)
 }
 
-// The version of a key that a section names within a limit.
-pub fn locate(section: &[u8], o: Opened, key: &[u8], limit: u64) -> Located
-    ensures { λ r. ⌜ r ≡ locateOf (now (section .entry)) o (now (key .entry)) limit ⌝ }
+// The version of a key, given by its hash too, that a section names within a limit.
+pub fn locate(section: &[u8], o: Opened, key: &[u8], limit: u64, h: u64) -> Located
+    requires { ⌜ IsRecord (now section) o ⌝ }
+    ensures { λ r. ⌜ r ≡ hashRead (now (section .entry)) o (now (key .entry)) limit h ⌝ }
 {
-    // The hash waits on itself; the tests of 24 go on meanwhile.
-    let h = point::hash(key, o.seed);
-    if !opened::is_record(section, o) {
-        return Located::Refused(24);
-    }
     let at = slot_at(section, o, h);
     slot_read(section, o, key, limit, h, at)
 }

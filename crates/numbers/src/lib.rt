@@ -43,19 +43,8 @@ pub fn write_record(o: Opened, out: &mut [u64; 16])
 pub fn is_record(numbers: &[u64; 16]) -> bool
     ensures { λ r. ⌜ r ≡ isRecordNumbers (now (numbers .entry)) ⌝ }
 {
-    if 1 < numbers[10] {
-        return false;
-    }
-    if 1 < numbers[12] {
-        return false;
-    }
-    if numbers[13] != 0 {
-        return false;
-    }
-    if numbers[14] != 0 {
-        return false;
-    }
-    numbers[15] == 0
+    (numbers[10] <= 1)
+        & ((numbers[12] <= 1) & ((numbers[13] == 0) & ((numbers[14] == 0) & (numbers[15] == 0))))
 }
 
 // The record that sixteen numbers are.

@@ -1,9 +1,10 @@
 // From a key to its slot: hash, fingerprint, bucket, and what a pilot names.
 ghost use mathlib.Core.Path.{_≡_};
-ghost use Prim.Native.Nat.{_+_, _≤_, _<_};
+ghost use Prim.Native.Nat.{_/_, _<_};
+ghost use lib.Bits.{bitXor};
 ghost use lib.ListN.{length};
 ghost use Rattle.num.specs.Number.{leAt};
-ghost use Rattle.point.specs.Hash.{mixOf, hashChunk, hashOf, fingerprintOf, bucketOf, positionOf, slotOf};
+ghost use Rattle.point.specs.Hash.{mixOf, hashChunk, chunksOf, tailOf, hashOf, fingerprintOf, bucketOf, positionOf, slotOf};
 
 // Bit 31. A pilot, of 32 bits, has it exactly if it is at least this number, and then names its slot.
 pub const DIRECT: u32 = 1 << 31;
@@ -25,48 +26,50 @@ fn hash_chunk(h: u64, chunk: u64) -> u64
     num::wrapping_mul(num::rotate_left(h ^ chunk, 27), STEP)
 }
 
-// The number in at most three bytes at `at`.
-fn up_to_three(key: &[u8], at: usize, rest: usize) -> u64
-    requires { ⌜ (at + rest ≤ length (now key)) × (rest < 4) ⌝ }
-    ensures { λ r. ⌜ (r ≡ leAt (now (key .entry)) at rest) × (r < 0x1000000) ⌝ }
+// The number in the bytes of a short key, from the last to the first.
+fn few(key: &[u8]) -> u64
+    requires { ⌜ length (now key) < 8 ⌝ }
+    ensures { λ r. ⌜ r ≡ leAt (now (key .entry)) 0 (length (now (key .entry))) ⌝ }
 {
-    if rest == 0 {
-        return 0;
+    let mut left = key.len();
+    let mut sum = 0u64;
+    while 0 < left {
+        left -= 1;
+        sum = sum * 256 + num::widen(key[left]);
     }
-    if rest == 1 {
-        return num::widen(key[at]);
-    }
-    let low = num::u16_at(key, at);
-    if rest == 2 {
-        return low;
-    }
-    low + 0x1_0000 * num::widen(key[at + 2])
+    sum
 }
 
-// The number in at most seven bytes at `at`.
-fn tail(key: &[u8], at: usize, rest: usize) -> u64
-    requires { ⌜ (at + rest ≤ length (now key)) × (rest < 8) ⌝ }
-    ensures { λ r. ⌜ r ≡ leAt (now (key .entry)) at rest ⌝ }
+// The hash after all chunks and the last odd bytes, which in a longer key are the top ones of its last eight. Two chunks are
+// taken without the loop: most keys have no more.
+fn all_chunks(key: &[u8], first: u64) -> u64
+    ensures { λ r. ⌜ r ≡ bitXor (chunksOf (length (now (key .entry)) / 8) (now (key .entry)) 0 first) (tailOf (now (key .entry))) ⌝ }
 {
-    if rest < 4 {
-        return up_to_three(key, at, rest);
+    let n = key.len();
+    if n < 8 {
+        return first ^ few(key);
     }
-    let low = num::u32_at(key, at) as u64;
-    let high = up_to_three(key, at + 4, rest - 4);
-    low + 0x1_0000_0000 * high
+    let mut h = hash_chunk(first, num::u64_at(key, 0));
+    let mut at = 8;
+    if 16 <= n {
+        h = hash_chunk(h, num::u64_at(key, 8));
+        at = 16;
+    }
+    while 8 <= n - at {
+        h = hash_chunk(h, num::u64_at(key, at));
+        at += 8;
+    }
+    if at == n {
+        return h;
+    }
+    h ^ (num::u64_at(key, n - 8) >> ((64 - 8 * (n - at)) as u32))
 }
 
 pub fn hash(key: &[u8], seed: u64) -> u64
     ensures { λ r. ⌜ r ≡ hashOf (now (key .entry)) seed ⌝ }
 {
-    let n = key.len();
-    let mut h = mix(seed ^ (n as u64));
-    let mut at = 0;
-    while 8 <= n - at {
-        h = hash_chunk(h, num::u64_at(key, at));
-        at += 8;
-    }
-    mix(h ^ tail(key, at, n - at))
+    let first = mix(seed ^ (key.len() as u64));
+    mix(all_chunks(key, first))
 }
 
 pub fn fingerprint(h: u64) -> u16
