@@ -35,6 +35,14 @@ uint64_t kiban_open_packed(const uint8_t *section, size_t section_len, const uin
 uint64_t kiban_lookup(const uint8_t *section, size_t section_len, const uint64_t record[16],
                       const uint8_t *key, size_t key_len, uint64_t limit, uint64_t answer[6]);
 
+/* The values of `count` keys from key `first` on, in key order and counted from 0, in a section by the record that kiban_open wrote:
+ * of each key the version of greatest sequence not above the limit, unless it is a tombstone. On 0 the pairs hold offset and length
+ * of each value in the data, one pair behind the other, and `*found` is their number; places behind them keep what they held. The
+ * section needs a scan part and addresses of 4 bytes (27), `first + count` is at most the number of keys (28), and `pairs_len`, the
+ * number of places, at least 2 * count (29). */
+uint64_t kiban_span(const uint8_t *section, size_t section_len, const uint64_t record[16], uint64_t first, uint64_t count,
+                    uint64_t limit, uint64_t *pairs, size_t pairs_len, uint64_t *found);
+
 /* Do an offset and a length lie in the data? 0, or 26. */
 uint64_t kiban_value(const uint8_t *data, size_t data_len, uint64_t offset, uint64_t length);
 

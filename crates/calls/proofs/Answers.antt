@@ -56,14 +56,14 @@ module _ (h : Holding) (o : Opened) (key : List ℕ) (limit : ℕ) where
   unfolding NoneWithin
   none-held n v w = n v (held-within v w)
 
-  held-none : NoneWithin (storeHeld h o) key limit → NoneWithin (blocksHeld h) key limit
+  pub held-none : NoneWithin (storeHeld h o) key limit → NoneWithin (blocksHeld h) key limit
   unfolding NoneWithin
   held-none n v w = n v (within-held v w)
 
   greatest-held : (v : Version) → Greatest (blocksHeld h) key limit v → Greatest (storeHeld h o) key limit v
   greatest-held v g = record { within = within-held v (g .within); greatest = λ w x. g .greatest w (held-within w x) }
 
-  held-greatest : (v : Version) → Greatest (storeHeld h o) key limit v → Greatest (blocksHeld h) key limit v
+  pub held-greatest : (v : Version) → Greatest (storeHeld h o) key limit v → Greatest (blocksHeld h) key limit v
   held-greatest v g = record { within = held-within v (g .within); greatest = λ w x. g .greatest w (within-held w x) }
 
 pub same-held : (h i : Holding) (o p : Opened) (key : List ℕ) (limit : ℕ) → SameVersions (blocksHeld h) (blocksHeld i) key limit

@@ -151,7 +151,7 @@ open-calls =
 -- ---- P3 and P5 at the entries
 
 -- a linker holds an accepted store
-linker-holds : (k : Linker) → (o : Opened) × HoldsStore (holding k) o
+pub linker-holds : (k : Linker) → (o : Opened) × HoldsStore (holding k) o
 unfolding holding storeHeld
 linker-holds (openedPlain c z) =
     let x = open-zero c .0 z in (

@@ -16,10 +16,13 @@ ghost use Rattle.kiban.specs.Written.{recordWritten, packedRecordWritten
 ghost use Rattle.kiban.specs.Written.{lookupOf, answerWritten};
 ghost use Rattle.builds.specs.Built.{offerFrom, builderWritten, sizeWritten, sectionLenWritten};
 ghost use Rattle.blocks.specs.Blocks.{fillOf, filledRead, filledNumber, filledCount, filledPlaces, findOf, foundPlace};
+ghost use Rattle.spans.specs.Span.{pairsWritten, spannedRead, spannedNumber};
+ghost use Rattle.kiban.specs.Spans.{spanOfNumbers, foundWritten};
 use blocks::BlockRecord;
 use header::HeaderRead;
 use locator::Located;
 use packing::PackedRead;
+use spans::Spanned;
 
 // The CRC-32 of the bytes: the 32-bit frame check sequence of ITU-T V.42.
 #[no_mangle]
@@ -113,6 +116,36 @@ pub extern "C" fn kiban_lookup(
             0
         }
         Located::Refused(n) => n,
+    }
+}
+
+// The values of `count` keys from key `first` on under a limit, in an opened plain section with a scan part: writes a pair of offset
+// and length for each, in key order, and their number: 0, or the number of the question that failed, which leaves both as they were.
+#[no_mangle]
+pub extern "C" fn kiban_span(
+    section: &[u8],
+    numbers: &[u64; 16],
+    first: u64,
+    count: u64,
+    limit: u64,
+    pairs: &mut [u64],
+    found: &mut u64,
+) -> u64
+    ensures { λ r. ⌜ (r ≡ spannedNumber (spannedRead (spanOfNumbers (now (section .entry)) (now (numbers .entry)) first count limit (length (now (pairs .entry))))))
+        × (now (pairs .exit) ≡ pairsWritten (spanOfNumbers (now (section .entry)) (now (numbers .entry)) first count limit (length (now (pairs .entry)))) (now (pairs .entry)))
+        × (now (found .exit) ≡ foundWritten (spanOfNumbers (now (section .entry)) (now (numbers .entry)) first count limit (length (now (pairs .entry)))) (now (found .entry))) ⌝ }
+{
+    if !numbers::is_record(numbers) {
+        return 24;
+    }
+    let o = numbers::read_record(numbers);
+    let spanned = spans::span(section, o, first, count, limit, pairs);
+    match spanned {
+        Spanned::Pairs(n) => {
+            *found = n;
+            0
+        }
+        Spanned::Refused(n) => n,
     }
 }
 

@@ -21,7 +21,7 @@ use Rattle.locating.proofs.Versions.{version-seq, listed}
 use Rattle.locating.proofs.Core.{indexed-looks}
 
 -- a lookup can count on an accepted store
-store-indexed : (t : LinkerStore) → Store t → Indexed (t .bytes) (t .opened) (t .backing) (storeEntries (t .backing) (t .blocks))
+pub store-indexed : (t : LinkerStore) → Store t → Indexed (t .bytes) (t .opened) (t .backing) (storeEntries (t .backing) (t .blocks))
 unfolding OpensExactly PacksExactly
 store-indexed t (plainOpening scratch e) =
     plain-indexed (t .bytes) (t .backing) (t .blocks) scratch (t .opened) (open-exactly (t .bytes) (t .backing) (t .blocks) scratch (t .opened) .0 e)

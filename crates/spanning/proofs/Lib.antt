@@ -1,0 +1,6 @@
+pub mod Keys
+pub mod Values
+pub mod Chain
+pub mod Accepted
+pub mod Calls
+pub mod Examples

@@ -1,0 +1,160 @@
+-- The walk over the versions of a key, one version at a time.
+-- Assumes nothing.
+use mathlib.Core.Path.{_≡_, refl, sym, ap, ap₂, _∙_}
+use mathlib.Core.Bool.{Bool, true, false}
+use mathlib.Core.List.{List, [], _∷_}
+use Prim.Native.Nat.{ℕ, suc, _+_, _*_, _-_, _^_, _<_, _≤_}
+use native.Mathlib.Nat.{mod-eq-of-lt}
+use native.Mathlib.Numerals.{add-one}
+use native.Mathlib.Omega.{arith}
+use lib.Dec.{leb, ltb}
+use lib.ListN.{length, set}
+use lib.Seq.{sets}
+use borrow.Author.Tests.{eq-eqb, ne-eqb, le-leb, lt-leb, lt-ltb, le-ltb, leb-true, ltb-true}
+use Rattle.num.specs.Answer.{Answer, given, refused}
+use Rattle.num.specs.Choice.{if_then_else_, both}
+use Rattle.num.specs.Number.{leAt}
+use Rattle.num.proofs.Choice.{false-true, both-true, true-both, both-no, if-true, if-false}
+use Rattle.sstable.specs.declared.Kind.{Kind}
+use Rattle.encoding.specs.Encoding.{versionLenOf, tombstoneOf}
+use Rattle.header.specs.declared.Opened.{Opened}
+use Rattle.versions.specs.Version.{storedSeq, storedValue, kindIn, lengthIn, storedOffset}
+use Rattle.locator.specs.Locator.{readable}
+use Rattle.spans.specs.Span.{Pair, valueEnd, unlessTombstone, valueAt, valueFrom, pairNumbers}
+use Rattle.spans.specs.Internal.{valueOr, isGiven, pairsOf}
+
+module _ (s : List ℕ) (o : Opened) (pos limit : ℕ) where
+  -- is its sequence read inside the section, and its sum below 2^64?
+  abbrev readOf : Bool
+  readOf = both (readable s pos (o .encoding .seq)) (ltb (storedSeq s o pos) (2 ^ 64))
+
+  -- the answer of the version within the limit
+  abbrev pub met : Answer (List Pair)
+  met = if readable s pos (valueEnd (o .encoding)) then given (valueAt s o pos) else refused 25
+
+  -- the answer, by both tests
+  abbrev answer : ℕ → Bool → Bool → Answer (List Pair)
+  answer k read low =
+      elim read [
+        | true ↦ elim low [ true ↦ met | false ↦ valueFrom k s o (pos + versionLenOf (o .encoding)) limit ]
+        | false ↦ refused 25
+      ]
+
+  one : (k : ℕ) (read low : Bool) → readOf ≡ read → leb (storedSeq s o pos) limit ≡ low → valueFrom (suc k) s o pos limit ≡ answer k read low
+  unfolding valueFrom
+  one k read low e f = ap₂ (answer k) e f
+
+  some : (n : ℕ) → 0 < n → valueFrom n s o pos limit ≡ valueFrom (suc (n - 1)) s o pos limit
+  some n h = let e : n ≡ suc (n - 1) = omega arith in ap (λ (k : ℕ). valueFrom k s o pos limit) e
+
+  read-yes : pos + o .encoding .seq ≤ length s → storedSeq s o pos < 2 ^ 64 → readOf ≡ true
+  unfolding readable
+  read-yes l b = true-both _ _ (le-leb (pos + o .encoding .seq) (length s) l) (lt-ltb (storedSeq s o pos) (2 ^ 64) b)
+
+  -- ---- of some versions, one is read
+
+  -- its sequence is not read outside the section
+  pub value-outside : (n : ℕ) → 0 < n → length s < pos + o .encoding .seq → valueFrom n s o pos limit ≡ refused 25
+  unfolding readable
+  value-outside n h l = some n h ∙ one (n - 1) false _ (sym (both-no _ _ (lt-leb (pos + o .encoding .seq) (length s) l))) refl
+
+  -- its sequence is not beyond 64 bits
+  pub value-beyond : (n : ℕ) → 0 < n → pos + o .encoding .seq ≤ length s → 2 ^ 64 ≤ storedSeq s o pos → valueFrom n s o pos limit ≡ refused 25
+  unfolding readable both
+  value-beyond n h l b =
+      some n h ∙ one (n - 1) false _ (rw (le-leb (pos + o .encoding .seq) (length s) l, le-ltb (storedSeq s o pos) (2 ^ 64) b)) refl
+
+  -- its sequence is within the limit: it is the answer
+  pub value-within : (n : ℕ) → 0 < n → pos + o .encoding .seq ≤ length s → storedSeq s o pos < 2 ^ 64 → storedSeq s o pos ≤ limit
+      → valueFrom n s o pos limit ≡ met
+  value-within n h l b w = some n h ∙ one (n - 1) true true (read-yes l b) (le-leb (storedSeq s o pos) limit w)
+
+  -- or above it: the next one is asked
+  pub value-above : (n : ℕ) → 0 < n → pos + o .encoding .seq ≤ length s → storedSeq s o pos < 2 ^ 64 → limit < storedSeq s o pos
+      → valueFrom n s o pos limit ≡ valueFrom (n - 1) s o (pos + versionLenOf (o .encoding)) limit
+  value-above n h l b w = some n h ∙ one (n - 1) true false (read-yes l b) (lt-leb (storedSeq s o pos) limit w)
+
+  -- none is left
+  pub value-none : (n : ℕ) → n ≤ 0 → valueFrom n s o pos limit ≡ given []
+  unfolding valueFrom
+  value-none n h = let e : n ≡ 0 = omega arith in ap (λ (k : ℕ). valueFrom k s o pos limit) e
+
+  -- ---- where nothing is refused, the reads are inside
+
+  pub given-read : (n : ℕ) → 0 < n → isGiven (valueFrom n s o pos limit) ≡ true → (pos + o .encoding .seq ≤ length s) × (storedSeq s o pos < 2 ^ 64)
+  unfolding readable isGiven
+  given-read n h e = go readOf refl
+    where
+      go : (b : Bool) → readOf ≡ b → (pos + o .encoding .seq ≤ length s) × (storedSeq s o pos < 2 ^ 64)
+      go true p = let t = both-true _ _ p in (leb-true _ _ (t .0), ltb-true _ _ (t .1))
+      go false p = false-true (sym (ap isGiven (some n h ∙ one (n - 1) false _ p refl)) ∙ e)
+
+  -- the version within the limit is given where all that a span reads of it is inside
+  pub met-read : isGiven met ≡ leb (pos + valueEnd (o .encoding)) (length s)
+  unfolding readable isGiven if_then_else_
+  met-read = go (leb (pos + valueEnd (o .encoding)) (length s))
+    where
+      go : (b : Bool) → isGiven (if b then given (valueAt s o pos) else refused 25) ≡ b
+      go true = refl
+      go false = refl
+
+  -- a version within the limit that is given is the answer
+  pub newest-met : (n : ℕ) → 0 < n → isGiven (valueFrom n s o pos limit) ≡ true → storedSeq s o pos ≤ limit
+      → (pos + valueEnd (o .encoding) ≤ length s) × (pairsOf (valueFrom n s o pos limit) ≡ valueAt s o pos)
+  unfolding readable pairsOf
+  newest-met n h e w =
+      let g = given-read n h e in
+      let m = value-within n h (g .0) (g .1) w in
+      let t = sym met-read ∙ sym (ap isGiven m) ∙ e in
+      (leb-true _ _ t, ap pairsOf (m ∙ if-true _ _ _ t))
+
+  -- and one above it is passed
+  pub newest-passed : (n : ℕ) → 0 < n → isGiven (valueFrom n s o pos limit) ≡ true → limit < storedSeq s o pos
+      → valueFrom n s o pos limit ≡ valueFrom (n - 1) s o (pos + versionLenOf (o .encoding)) limit
+  newest-passed n h e w = let g = given-read n h e in value-above n h (g .0) (g .1) w
+
+-- ---- the value at a place, as it is stored
+
+-- at place 0 there is none
+pub value-nowhere : (s : List ℕ) (o : Opened) (pos : ℕ) → pos ≡ 0 → valueOr s o pos ≡ []
+unfolding valueOr
+value-nowhere s o pos e = if-true _ _ _ (eq-eqb pos 0 e)
+
+pub value-there : (s : List ℕ) (o : Opened) (pos : ℕ) → 0 < pos → valueOr s o pos ≡ valueAt s o pos
+unfolding valueOr
+value-there s o pos h = if-false _ _ _ (ne-eqb pos 0 (λ e. omega arith))
+
+-- and the output is left
+pub nowhere-put : (s : List ℕ) (o : Opened) (pos : ℕ) → pos ≡ 0 → (l : List ℕ) (to : ℕ)
+    → (to ≡ to + 2 * length (valueOr s o pos)) × (l ≡ sets l to (pairNumbers (valueOr s o pos)))
+unfolding pairNumbers
+nowhere-put s o pos z l to = let e = value-nowhere s o pos z in (rw e (omega arith), rw e)
+
+module _ (s : List ℕ) (o : Opened) (pos : ℕ) {top stored : ℕ} (et : top ≡ tombstoneOf (o .encoding))
+    (ev : stored ≡ leAt s (pos + o .encoding .seq) (o .encoding .value)) where
+  tombstone-none : top ≤ stored → valueAt s o pos ≡ []
+  unfolding valueAt kindIn storedValue unlessTombstone
+  tombstone-none l =
+      ap (λ (k : Kind). unlessTombstone k (record { offset = storedOffset s o pos; len = lengthIn o (storedValue s o pos) }))
+      (if-true _ _ _ (le-leb (tombstoneOf (o .encoding)) (storedValue s o pos) (omega arith)))
+
+  put-pair : stored < top → {offset : ℕ} → offset ≡ leAt s (pos + o .encoding .seq + o .encoding .value) 4 → o .encoding .address ≡ 4
+      → valueAt s o pos ≡ record { offset = offset; len = stored } ∷ []
+  unfolding valueAt kindIn storedValue unlessTombstone storedOffset lengthIn
+  put-pair l {offset} eo four =
+      let m : lengthIn o (storedValue s o pos) ≡ stored = mod-eq-of-lt (omega arith) ∙ sym ev in
+      let p : storedOffset s o pos ≡ offset = rw (four) (sym eo) in
+      ap₂ (λ (k : Kind) (q : Pair). unlessTombstone k q)
+      (if-false _ _ _ (lt-leb (tombstoneOf (o .encoding)) (storedValue s o pos) (omega arith)))
+      (ap₂ (λ (a b : ℕ). record { offset = a; len = b }) p m)
+
+  -- a tombstone leaves the output
+  pub none-put : top ≤ stored → 0 < pos → (l : List ℕ) (to : ℕ) → (to ≡ to + 2 * length (valueOr s o pos)) × (l ≡ sets l to (pairNumbers (valueOr s o pos)))
+  unfolding pairNumbers
+  none-put h p l to = let e = value-there s o pos p ∙ tombstone-none h in (rw e (omega arith), rw e)
+
+  -- another version puts its pair there
+  pub pair-put : stored < top → 0 < pos → {offset : ℕ} → offset ≡ leAt s (pos + o .encoding .seq + o .encoding .value) 4 → o .encoding .address ≡ 4
+      → (l : List ℕ) (to : ℕ) → (to + 2 ≡ to + 2 * length (valueOr s o pos)) × (set (set l to offset) (to + 1) stored ≡ sets l to (pairNumbers (valueOr s o pos)))
+  unfolding pairNumbers
+  pair-put h p eo four l to = let e = value-there s o pos p ∙ put-pair h eo four in (rw e (omega arith), rw (e, add-one))
