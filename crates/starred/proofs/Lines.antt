@@ -1,9 +1,6 @@
 -- Every starred line of document 01 holds, by computation from the three adds.
 -- Assumes nothing.
-use mathlib.Core.Path.{_≡_, refl}
-use mathlib.Core.List.{List}
-use Prim.Native.Nat.{ℕ}
-use Rattle.num.specs.Answer.{given}
+use mathlib.Core.Path.{refl}
 use Rattle.num.specs.Choice.{choice-defs}
 use Rattle.num.specs.Number.{leAt, leBytes}
 use Rattle.num.specs.Order.{commonPrefixLen, lessThan, equalBytes}
@@ -27,21 +24,21 @@ use Rattle.readback.specs.ReadBack.{read-back-defs}
 use Rattle.written.specs.Joined.{joined, fieldsBytes}
 use Rattle.written.specs.Arena.{arena-written-defs}
 use Rattle.written.specs.Section.{section-defs}
-use Rattle.header.specs.declared.HeaderRead.the-variants.{Accepted}
-use Rattle.header.specs.Header.{header-defs, packedRecord}
+use Rattle.header.specs.Header.{header-defs}
 use Rattle.opened.specs.Opened.{opened-defs}
 use Rattle.arena.specs.Key.{key-defs}
 use Rattle.versions.specs.Version.{version-defs}
 use Rattle.validate.specs.Walk.{walk-defs, valueOf}
-use Rattle.opening.specs.Open.{open-defs, openOf}
+use Rattle.opening.specs.Open.{open-defs}
 use Rattle.packed.specs.Packed.{packed-defs}
-use Rattle.packing.specs.Packing.{packing-defs, openPackedOf, packedAs}
+use Rattle.packing.specs.Packing.{packing-defs}
 use Rattle.locator.specs.Locator.{locator-defs}
 use Rattle.lookup.specs.Lookup.{lookup-defs}
+use Rattle.spans.specs.Span.{span-defs}
 use Rattle.writer.specs.Write.{write-defs}
-use Rattle.worked.specs.Worked.{worked-defs, workedData, workedList, workedSection, workedScanSection, workedPacked, workedScanPacked, workedOpened, workedScanOpened}
-use Rattle.starred.specs.Lines.{sectionWith, bytesOf, threeAdded, addedFrom, stateFor, offerFor, LinesHold, starredLines, answerTo, numberTold, versionTold, locatedTold, lookupTold, packedLookupTold, packedLenTold, pilotTold, openingWith, packingWith}
+use Rattle.worked.specs.Worked.{worked-defs}
+use Rattle.starred.specs.Lines.{sectionWith, bytesOf, threeAdded, addedFrom, stateFor, offerFor, LinesHold, starredLines, answerTo, numberTold, versionTold, locatedTold, lookupTold, packedLookupTold, packedLenTold, pairsTold, spanTold, pilotTold, openingWith, packingWith}
 
 pub lines-hold : LinesHold
-unfolding LinesHold starredLines answerTo numberTold versionTold locatedTold lookupTold packedLookupTold packedLenTold pilotTold openingWith packingWith sectionWith bytesOf threeAdded addedFrom stateFor offerFor valueOf worked-defs write-defs section-defs arena-written-defs joined fieldsBytes read-back-defs add-defs builder-defs offer-defs area-defs construct-defs class-defs encoding-defs hash-defs limit-defs kindNumber crc-defs commonPrefixLen equalBytes leAt leBytes choice-defs open-defs walk-defs version-defs key-defs header-defs opened-defs lessThan trailer-defs verify-defs record-at-defs entry-header-defs block-walk-defs kindOf packed-defs packing-defs locator-defs lookup-defs
+unfolding LinesHold starredLines answerTo numberTold versionTold locatedTold lookupTold packedLookupTold packedLenTold pairsTold spanTold pilotTold openingWith packingWith sectionWith bytesOf threeAdded addedFrom stateFor offerFor valueOf worked-defs write-defs section-defs arena-written-defs joined fieldsBytes read-back-defs add-defs builder-defs offer-defs area-defs construct-defs class-defs encoding-defs hash-defs limit-defs kindNumber crc-defs commonPrefixLen equalBytes leAt leBytes choice-defs open-defs walk-defs version-defs key-defs header-defs opened-defs lessThan trailer-defs verify-defs record-at-defs entry-header-defs block-walk-defs kindOf packed-defs packing-defs locator-defs lookup-defs span-defs
 lines-hold = refl
