@@ -17,6 +17,8 @@ mod building;
 mod construct;
 mod leaves;
 mod measure;
+#[cfg(has = "kiban_span")]
+mod spans;
 mod stores;
 
 use rng::Rng;
@@ -63,6 +65,7 @@ fn main() {
         "kiban_open": stores::opening;
         "kiban_open_packed": stores::opening_packed;
         "kiban_lookup": stores::lookups;
+        "kiban_span": spans::rows;
         "probe_construct": construct::rows;
         "kiban_write": building::rows;
     };

@@ -26,7 +26,7 @@ const PER_BLOCK: usize = 50;
 /// No sequence is above it.
 const LIMIT: u64 = 0xffff;
 
-struct Store {
+pub struct Store {
     entries: Vec<Entry>,
     offsets: Vec<u64>,
     section: Vec<u8>,
@@ -46,6 +46,11 @@ impl Store {
         let mut entry = |key| Entry { kind: 1, key, value: rng.bytes(VALUE), sequence: rng.next() & LIMIT };
         let mut entries: Vec<Entry> = keys.into_iter().map(&mut entry).collect();
         entries[0].value.resize(first, 0);
+        Store::of(entries, prefix)
+    }
+
+    /// The blocks and the section of these entries.
+    pub fn of(entries: Vec<Entry>, prefix: usize) -> Rc<Self> {
         let (mut offsets, mut data, mut list) = (Vec::new(), Vec::new(), Vec::new());
         for part in entries.chunks(PER_BLOCK) {
             let (base, block) = (data.len() as u64, block(part, 16));
@@ -61,7 +66,7 @@ impl Store {
         self.list.chunks_exact(2).map(|pair| (pair[0], pair[1])).collect()
     }
 
-    fn plain(&self) -> Index {
+    pub fn plain(&self) -> Index {
         let index = open(&self.section, &self.data, &self.pairs()).expect("accepted");
         assert!(index.record()[10] == 1 && index.record()[12] == 0 && index.bytes() == self.section);
         index
@@ -79,8 +84,10 @@ impl Store {
 
 fn rust_build(entries: &[Entry], offsets: &[u64], prefix: usize) -> Vec<u8> {
     let mut builder = Builder::new(prefix);
+    let mut last: Option<&[u8]> = None;
     for (e, &offset) in entries.iter().zip(offsets) {
-        builder.add(e.kind, &e.key, &e.value, e.sequence, true, offset).expect("taken");
+        builder.add(e.kind, &e.key, &e.value, e.sequence, last != Some(&e.key), offset).expect("taken");
+        last = Some(&e.key);
     }
     builder.finish().expect("a section")
 }

@@ -4,6 +4,8 @@
 mod c {
     pub type Table = [[u32; 256]; 8];
     pub type Record = [u64; 16];
+    /// The five numbers of `struct kiban_block_record`, which has their layout.
+    pub type BlockRecord = [u64; 5];
 
     unsafe extern "C" {
         pub fn kiban_crc32(data: *const u8, data_len: usize) -> u32;
@@ -53,6 +55,16 @@ mod c {
             pairs_len: usize,
             found: *mut u64,
         ) -> u64;
+        pub fn kiban_fill_blocks(
+            data: *const u8,
+            data_len: usize,
+            blocks: *const u64,
+            blocks_len: usize,
+            records: *mut BlockRecord,
+            records_len: usize,
+            count: *mut u64,
+        ) -> u64;
+        pub fn kiban_find_block(records: *const BlockRecord, records_len: usize, offset: u64) -> u64;
         pub fn kiban_add(
             area: *mut u8,
             area_len: usize,
@@ -269,6 +281,19 @@ pub fn span(section: &[u8], record: &Record, asked: [u64; 3], pairs: &mut [u64],
     let [first, count, limit] = asked;
     // SAFETY: as above.
     unsafe { c::kiban_span(at, length, record, first, count, limit, pairs.as_mut_ptr(), places, found) }
+}
+
+#[inline(always)]
+pub fn fill_blocks(data: &[u8], list: &[u64], records: &mut [c::BlockRecord], count: &mut u64) -> u64 {
+    let (at, places) = (records.as_mut_ptr(), records.len());
+    // SAFETY: as above.
+    unsafe { c::kiban_fill_blocks(data.as_ptr(), data.len(), list.as_ptr(), list.len(), at, places, count) }
+}
+
+#[inline(always)]
+pub fn find_block(records: &[c::BlockRecord], offset: u64) -> u64 {
+    // SAFETY: as above.
+    unsafe { c::kiban_find_block(records.as_ptr(), records.len(), offset) }
 }
 
 /// An add. Numbers: tombstone, sequence, new, offset.

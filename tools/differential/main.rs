@@ -12,6 +12,8 @@ mod chosen;
 mod damage;
 #[path = "../common/entries.rs"]
 mod entries;
+#[path = "../common/filling.rs"]
+mod filling;
 #[path = "../common/forge.rs"]
 mod forge;
 #[path = "../common/numbers.rs"]
@@ -26,6 +28,8 @@ mod reading;
 mod reads;
 #[path = "../common/rng.rs"]
 mod rng;
+#[path = "../common/spanning.rs"]
+mod spanning;
 #[path = "../common/stores.rs"]
 mod stores;
 
@@ -82,6 +86,7 @@ layers! {
     opening: "kiban_open";
     lookup: "kiban_lookup" "kiban_value";
     spans: "kiban_span";
+    block_records: "kiban_fill_blocks" "kiban_find_block";
     construct: "probe_construct";
     building: "kiban_add" "kiban_size" "kiban_write" "kiban_open" "kiban_open_packed";
 }

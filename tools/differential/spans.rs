@@ -3,13 +3,12 @@ use crate::Layer;
 use crate::buffer::{Buffer, Places};
 use crate::case::{Answer, Case};
 use crate::forge::{self, Input};
-use crate::numbers::NO_NUMBER;
 use crate::ours;
-use crate::reading::{self, Unread};
 use crate::reads::{self, unasked};
 use crate::rng::Rng;
 use crate::run::Run;
-use oracle::compact::{Record, forged, open_packed};
+use crate::spanning::pairs;
+use oracle::compact::open_packed;
 
 pub const LAYER: Layer = Layer { name: "spans", kinds: &["span"], ask, fixed, round };
 
@@ -40,7 +39,8 @@ fn our_span(case: &Case, record: &[u64; 16]) -> Answer {
 fn rust_span(case: &Case, record: &[u64; 16]) -> Answer {
     let places = case.numbers[19] as usize;
     let mut words = vec![BEFORE; places + 1];
-    match pairs(case, record) {
+    let asked = case.numbers[16..20].try_into().expect("four numbers");
+    match pairs(&case.bytes[0], &case.bytes[1], record, asked) {
         Ok(pairs) => {
             words[..pairs.len()].copy_from_slice(&pairs);
             words[places] = pairs.len() as u64 / 2;
@@ -48,43 +48,6 @@ fn rust_span(case: &Case, record: &[u64; 16]) -> Answer {
         }
         Err(number) => Answer { number, ..Answer::words(words) },
     }
-}
-
-/// Document 01's pairs or refusal. Where the Rust can be asked, it must give the same pairs, and panic at a read outside.
-fn pairs(case: &Case, record: &[u64; 16]) -> Result<Vec<u64>, u64> {
-    let (section, data) = (&case.bytes[0], &case.bytes[1]);
-    let [first, count, limit, places] = case.numbers[16..20] else { unreachable!("four numbers") };
-    let record = reading::admitted(section, record)?;
-    if record[12] == 1 || record[11] == 0 || record[5] != 4 {
-        return Err(27);
-    }
-    if u128::from(first) + u128::from(count) > u128::from(record[2]) {
-        return Err(28);
-    }
-    if 2 * u128::from(count) > u128::from(places) {
-        return Err(29);
-    }
-    let rust = || rust(section, data, &record, first, count, limit);
-    // Without a limit the Rust takes another path, which reads less.
-    let current = limit == u64::MAX;
-    match reading::span(section, &record, first, count, limit) {
-        Err(Unread::Outside) if !current && rust().is_ok() => Err(NO_NUMBER),
-        Err(_) => Err(25),
-        Ok(span) => {
-            let comparable =
-                span.sliced.iter().all(|&slice| inside(slice, data)) && !(current && span.without_versions);
-            if comparable && rust() != Ok(span.pairs.clone()) { Err(NO_NUMBER) } else { Ok(span.pairs) }
-        }
-    }
-}
-
-fn inside((offset, length): (u64, u64), data: &[u8]) -> bool {
-    u128::from(offset) + u128::from(length) <= data.len() as u128
-}
-
-fn rust(section: &[u8], data: &[u8], record: &Record, first: u64, count: u64, limit: u64) -> Result<Vec<u64>, String> {
-    let pairs = forged(section, data, record).span(first as usize, count as usize, limit)?;
-    Ok(pairs.into_iter().flat_map(|(offset, length)| [offset, length]).collect())
 }
 
 fn span(run: &mut Run, input: &Input, record: &[u64; 16], asked: [u64; 4]) {

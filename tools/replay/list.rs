@@ -29,6 +29,7 @@ pub enum Kind {
     Held,
     Size,
     Write,
+    Span,
 }
 
 #[derive(Default)]

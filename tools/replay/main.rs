@@ -24,6 +24,8 @@ mod reading;
 mod reads;
 #[path = "../common/rng.rs"]
 mod rng;
+#[path = "../common/spanning.rs"]
+mod spanning;
 #[path = "../common/stores.rs"]
 mod stores;
 
@@ -31,6 +33,7 @@ mod building;
 mod leaves;
 mod list;
 mod lookups;
+mod spans;
 mod whole;
 
 use list::List;
@@ -53,6 +56,8 @@ const PROGRAMS: [(&str, &[(&str, Make)]); 2] = [
             ("run.bin", whole::run),
             ("lookup.bin", lookups::lookup),
             ("forged.bin", lookups::forged),
+            ("spans.bin", spans::spans),
+            ("forged_spans.bin", spans::forged),
         ],
     ),
     (

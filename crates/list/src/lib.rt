@@ -61,7 +61,7 @@ pub fn read(list: &[u8], at: u64, to: &mut [u64]) {
 }
 
 // Does the list have these numbers at a place?
-fn has(list: &[u8], at: u64, numbers: &[u64]) -> bool {
+pub fn has(list: &[u8], at: u64, numbers: &[u64]) -> bool {
     let mut from = at;
     let mut i = 0;
     while i < numbers.len() {

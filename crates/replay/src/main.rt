@@ -16,6 +16,7 @@ fn agrees(list: &[u8], row: u64) -> bool {
         6 => opens::open(list, row),
         7 => lookups::lookup(list, row),
         8 => lookups::value(list, row),
+        15 => lookups::span(list, row),
         _ => false,
     }
 }
@@ -56,4 +57,6 @@ fn main() {
     report(b"run.bin");
     report(b"lookup.bin");
     report(b"forged.bin");
+    report(b"spans.bin");
+    report(b"forged_spans.bin");
 }
