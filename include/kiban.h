@@ -1,72 +1,187 @@
-/* The delivered interface for a linker or a loader: link libkiban.a (rt staticlib kiban).
- * A result is 0 or the number of document 01 for the first question that is answered with no (kiban_crc32 returns the CRC itself);
- * on a refusal nothing behind a pointer changes but scratch. No entry allocates.
- * Memory that an entry writes (scratch, output, record, len, answer, size, and the area and the builder of kiban_add) must not
- * overlap any other memory of the same call: the proofs rest on it. What is only read may overlap. */
+/* KIBANPH3 point indexes for a linker or a loader: link libkiban.a (rt staticlib kiban).
+ *
+ * Results. Every entry but kiban_crc32 and kiban_find_block returns 0, or the number of the first question that it answers with no
+ * (enum kiban_refusal; docs/REFUSALS.md). A refusal changes nothing behind a pointer but scratch.
+ *
+ * Memory. No entry allocates, keeps state, or holds on to a pointer: entries may be called from any thread, each call with memory that no
+ * other one writes. What an entry writes must overlap no other memory of the same call, since the proofs rest on it; what is only read
+ * may overlap. Byte buffers need no alignment, arrays of 32-bit and 64-bit numbers that of their type. A length of 0 is allowed everywhere;
+ * the pointer beside it is not read, but should not be null. Scratch needs no initial contents, and what a call leaves in it has no meaning.
+ *
+ * Stack. The bytes named at the entries were measured on x86-64 with the worked store of document 01. */
 #ifndef KIBAN_H
 #define KIBAN_H
 
 #include <stddef.h>
 #include <stdint.h>
 
-/* The CRC-32 of the data: the 32-bit frame check sequence of ITU-T V.42. */
+#ifdef __cplusplus
+extern "C" {
+#endif
+
+/* The numbers of document 01, 0 for none (docs/REFUSALS.md says what each asks, what causes it and what to do). */
+enum kiban_refusal {
+    KIBAN_ACCEPTED = 0,
+    KIBAN_TRAILER = 1,
+    KIBAN_SECTION_CRC = 2,
+    KIBAN_MAGIC = 3,
+    KIBAN_HEADER = 4,
+    KIBAN_SCAN_PART = 5,
+    KIBAN_SCAN_SETTINGS = 6,
+    KIBAN_NOT_PACKABLE = 7,
+    KIBAN_PILOT_WIDE = 8,
+    KIBAN_PACKED_ROOM = 9,
+    KIBAN_PILOT_SLOT = 10,
+    KIBAN_BLOCK_LIST = 11,
+    KIBAN_BLOCK = 12,
+    KIBAN_ENTRY = 13,
+    KIBAN_LIMITS = 14,
+    KIBAN_KEY_ROOM = 15,
+    KIBAN_KEY_RECORD = 16,
+    KIBAN_KEY_ORDER = 17,
+    KIBAN_SCAN_ADDRESS = 18,
+    KIBAN_SLOT = 19,
+    KIBAN_VERSION = 20,
+    KIBAN_VALUE_CRC = 21,
+    KIBAN_ENDS = 22,
+    KIBAN_PREFIX_COUNT = 23,
+    KIBAN_RECORD_GIVEN = 24,
+    KIBAN_READ = 25,
+    KIBAN_VALUE_PLACE = 26,
+    KIBAN_NO_SPANS = 27,
+    KIBAN_SPAN_KEYS = 28,
+    KIBAN_SPAN_ROOM = 29,
+    KIBAN_ADD_LIMITS = 30,
+    KIBAN_FIRST_NOT_NEW = 31,
+    KIBAN_OFFSET_FALLS = 32,
+    KIBAN_TOO_MANY_KEYS = 33,
+    KIBAN_AREA_ROOM = 34,
+    KIBAN_PREFIX_LONG = 35,
+    KIBAN_NO_KEY = 36,
+    KIBAN_BUILDER = 37,
+    KIBAN_BUILD_SCRATCH = 38,
+    KIBAN_SECTION_ROOM = 39,
+    KIBAN_NO_SEED = 40,
+    KIBAN_BLOCKS_ROOM = 41
+};
+
+/* Numbers in a record (opened or builder's) and in an answer. */
+#define KIBAN_RECORD 16
+#define KIBAN_ANSWER 6
+
+/* Sizes that a caller needs. Each argument is used once; give unsigned numbers.
+ * The key scratch of the openings, in bytes, for keys up to this length: */
+#define KIBAN_KEY_SCRATCH_LEN(longest_key) (2 * (longest_key))
+/* the output of kiban_open_packed, in bytes: always enough for a section of this length */
+#define KIBAN_PACKED_LEN(section_len) (section_len)
+/* the pairs of kiban_span, in numbers */
+#define KIBAN_SPAN_LEN(count) (2 * (count))
+/* the area of kiban_add, in bytes, for so many keys with so many bytes in all, and so many versions in all */
+#define KIBAN_AREA_LEN(keys, key_bytes, versions) (8 * (keys) + (key_bytes) + 25 * (versions))
+/* the scratches of kiban_write, in numbers, for so many keys (place KIBAN_B_KEYS of the builder's record) */
+#define KIBAN_SCRATCH64_LEN(keys) (keys)
+#define KIBAN_SCRATCH32_LEN(keys) (6 * (keys) + 8)
+
+/* A lookup without a limit. */
+#define KIBAN_NO_LIMIT UINT64_MAX
+
+/* Places of an opened record; the last three are 0. */
+enum kiban_record_place {
+    KIBAN_R_SEED = 0,
+    KIBAN_R_LEAST_SEQUENCE = 1,
+    KIBAN_R_KEYS = 2,
+    KIBAN_R_BUCKETS = 3,
+    KIBAN_R_ARENA = 4,
+    KIBAN_R_ADDRESS_WIDTH = 5,
+    KIBAN_R_KEY_WIDTH = 6,
+    KIBAN_R_COUNT_WIDTH = 7,
+    KIBAN_R_SEQUENCE_WIDTH = 8,
+    KIBAN_R_VALUE_WIDTH = 9,
+    KIBAN_R_CHECKSUMS = 10, /* 0 or 1 */
+    KIBAN_R_SCAN = 11,      /* place of the scan part, 0 without one and in a packed record */
+    KIBAN_R_PACKED = 12     /* 0 or 1 */
+};
+
+/* Places of an answer: six zeros if there is none. */
+enum kiban_answer_place {
+    KIBAN_A_FOUND = 0, /* 1 */
+    KIBAN_A_KIND = 1,  /* KIBAN_PUT or KIBAN_TOMBSTONE */
+    KIBAN_A_SEQUENCE = 2,
+    KIBAN_A_OFFSET = 3, /* of the value in the data */
+    KIBAN_A_LENGTH = 4,
+    KIBAN_A_CHECKSUM = 5 /* CRC-32 of the value, 0 in a section without checksums */
+};
+
+enum kiban_kind { KIBAN_PUT = 1, KIBAN_TOMBSTONE = 2 };
+
+/* Places of a builder's record; sixteen zeros are the empty builder, and the last four are always 0. */
+enum kiban_builder_place {
+    KIBAN_B_KEYS = 0,
+    KIBAN_B_VERSIONS = 1,
+    KIBAN_B_SUFFIX_BYTES = 2,
+    KIBAN_B_USED = 3, /* bytes of the area */
+    KIBAN_B_LEAST_SEQUENCE = 4,
+    KIBAN_B_GREATEST_SEQUENCE = 5,
+    KIBAN_B_LONGEST_KEY = 6,
+    KIBAN_B_LONGEST_VALUE = 7,
+    KIBAN_B_MOST_VERSIONS = 8,
+    KIBAN_B_LAST_OFFSET = 9,
+    KIBAN_B_LAST_KEY = 10, /* place in the area */
+    KIBAN_B_ANCHOR = 11    /* place in the area */
+};
+
+/* The CRC-32 of the data: the 32-bit frame check sequence of ITU-T V.42. Stack: 1,096 bytes, and
+ * 9,320 for more than 448 bytes of data. */
 uint32_t kiban_crc32(const uint8_t *data, size_t data_len);
 
-/* Opens a section beside its backing data and its block list (pairs of offset and length, `blocks_len` numbers in all).
- * The scratch has room for two keys. On 0 the record holds: seed, least sequence, keys, buckets, arena start, the widths of
- * address, key, count, sequence and value, checksums (0 or 1), scan place, packed (0), and three zeros.
- * On x86-64 it took 9,352 bytes of stack for the worked store of document 01, of which 8,192 are the CRC tables. */
+/* Opens a section beside its backing data and its block list (pairs of offset and length, `blocks_len` numbers in all). The scratch holds
+ * two keys. On 0 the record is written. Stack: 9,460 bytes. */
 uint64_t kiban_open(const uint8_t *section, size_t section_len, const uint8_t *data, size_t data_len,
                     const uint64_t *blocks, size_t blocks_len, uint8_t *scratch, size_t scratch_len,
-                    uint64_t record[16]);
+                    uint64_t record[KIBAN_RECORD]);
 
-/* Opens a section as kiban_open does, and writes its packed form to the output, which needs no more room than the section
- * has. On 0 the record is the packed one (packed 1, scan place 0), `*len` is the number of packed bytes, and the output
- * keeps what it held behind them. It took 9,480 bytes of stack for the worked store. */
+/* Opens a section as kiban_open does, and writes its packed form to the output. On 0 the record is the packed one, `*len` is the number of
+ * packed bytes, and the output keeps what it held behind them. Stack: 9,588 bytes. */
 uint64_t kiban_open_packed(const uint8_t *section, size_t section_len, const uint8_t *data, size_t data_len,
                            const uint64_t *blocks, size_t blocks_len, uint8_t *scratch, size_t scratch_len,
-                           uint8_t *output, size_t output_len, uint64_t record[16], uint64_t *len);
+                           uint8_t *output, size_t output_len, uint64_t record[KIBAN_RECORD], uint64_t *len);
 
-/* Looks a key up in a section, or in a packed form, by the record that its opening wrote: the version of greatest sequence
- * not above the limit. On 0 the answer holds: found (0 none, 1), kind (1 Put, 2 Tombstone), sequence, offset and length of
- * the value in the data, and its CRC-32 (0 without checksums); six zeros for none. A record that these bytes do not give
- * is 24. A packed form is given as exactly the `*len` bytes that kiban_open_packed counted, not as the whole output.
- * It took 264 bytes of stack in the worked store and in its packed form. */
-uint64_t kiban_lookup(const uint8_t *section, size_t section_len, const uint64_t record[16],
-                      const uint8_t *key, size_t key_len, uint64_t limit, uint64_t answer[6]);
+/* Looks a key up in a section, or in a packed form, by the record that its opening wrote: the version of greatest sequence not above the
+ * limit. On 0 the answer is written, six zeros for none. A packed form is given as exactly the `*len` bytes that kiban_open_packed counted, not
+ * as the whole output. Stack: 168 bytes. */
+uint64_t kiban_lookup(const uint8_t *section, size_t section_len, const uint64_t record[KIBAN_RECORD],
+                      const uint8_t *key, size_t key_len, uint64_t limit, uint64_t answer[KIBAN_ANSWER]);
 
-/* The values of `count` keys from key `first` on, in key order and counted from 0, in a section by the record that kiban_open wrote:
- * of each key the version of greatest sequence not above the limit, unless it is a tombstone. On 0 the pairs hold offset and length
- * of each value in the data, one pair behind the other, and `*found` is their number; places behind them keep what they held. The
- * section needs a scan part and addresses of 4 bytes (27), `first + count` is at most the number of keys (28), and `pairs_len`, the
- * number of places, at least 2 * count (29). */
-uint64_t kiban_span(const uint8_t *section, size_t section_len, const uint64_t record[16], uint64_t first, uint64_t count,
-                    uint64_t limit, uint64_t *pairs, size_t pairs_len, uint64_t *found);
-
-/* Do an offset and a length lie in the data? 0, or 26. */
+/* Do an offset and a length lie in the data? 0, or 26. The value is then the part of the data at that offset. Stack: 16 bytes. */
 uint64_t kiban_value(const uint8_t *data, size_t data_len, uint64_t offset, uint64_t length);
 
-/* Adds an entry to a builder: `tombstone` 0 is a Put, any other number a tombstone; `new_key` 0 is a version of the last key,
- * any other number one of a new key; the value stands at `offset` of the data. On 0 the area holds the entry behind the used
- * bytes (25 bytes, and 8 and the key's length for a new key), an entry that is not new is counted at the last key, and the
- * builder holds: keys, versions, suffix bytes, used bytes of the area, least and greatest sequence, longest key, longest
- * value, most versions of a key, last offset, place of the last key, place of the anchor, and four zeros. Sixteen zeros are
- * the empty builder. The next call gets the used bytes and the builder as this one left them; the area may be a longer one. */
-uint64_t kiban_add(uint8_t *area, size_t area_len, uint64_t builder[16], uint64_t tombstone,
+/* The values of `count` neighbouring keys from key `first` on (counted from 0, in key order) under a limit: of each key's version of greatest
+ * sequence not above the limit, unless that is a tombstone. On 0 the pairs (offset, length) stand in key order in the first 2 * `*found`
+ * places, and the places behind them are kept. For sections with a scan part, opened plain. Stack: 552 bytes. */
+uint64_t kiban_span(const uint8_t *section, size_t section_len, const uint64_t record[KIBAN_RECORD],
+                    uint64_t first, uint64_t count, uint64_t limit, uint64_t *pairs, size_t pairs_len, uint64_t *found);
+
+/* Adds an entry to a builder: a version of a new key (`new_key` not 0), or of the last key (`new_key` 0; its key must be the same, which is not
+ * asked). `tombstone` 0 is a Put. The value's CRC-32 is kept, and `offset` as its place in the data. The first call is given a record of sixteen
+ * zeros; each later one the record and the used bytes of the area as the last one left them. The area may grow or move in between, and
+ * what stands behind the used bytes does not matter. On 0 area and record hold the entry.
+ * For a section that opens, entries are in order: keys rise, versions of a key fall in sequence, tombstones have empty values, and
+ * each offset is where the value stands in the data. Stack: 1,304 bytes. */
+uint64_t kiban_add(uint8_t *area, size_t area_len, uint64_t builder[KIBAN_RECORD], uint64_t tombstone,
                    const uint8_t *key, size_t key_len, const uint8_t *value, size_t value_len,
                    uint64_t sequence, uint64_t new_key, uint64_t offset);
 
-/* On 0 `*size` is the number of bytes of the section that kiban_write writes with this scan prefix. */
-uint64_t kiban_size(const uint64_t builder[16], uint64_t prefix, uint64_t *size);
+/* How many bytes kiban_write would write with this scan prefix. On 0 `*size` is written. Stack: 184 bytes. */
+uint64_t kiban_size(const uint64_t builder[KIBAN_RECORD], uint64_t prefix, uint64_t *size);
 
-/* Writes the section of a builder and its area, with a scan prefix of at most 24 bytes. With n keys, `scratch64` has room for
- * n numbers, `scratch32` for 6n + 8, and the output for the bytes that kiban_size tells. On 0 the output holds the section,
- * `*len` is the number of its bytes, and the output keeps what it held behind them. */
-uint64_t kiban_write(const uint8_t *area, size_t area_len, const uint64_t builder[16], uint64_t prefix,
+/* Writes the section of the entries added, with a scan part for spans if the prefix is 1 to 24. The same entries and prefix give the same bytes on
+ * every machine. On 0 the section stands at the front of the output, `*len` is its length, and what is behind it is kept. Stack: 8,984 bytes. */
+uint64_t kiban_write(const uint8_t *area, size_t area_len, const uint64_t builder[KIBAN_RECORD], uint64_t prefix,
                      uint64_t *scratch64, size_t scratch64_len, uint32_t *scratch32, size_t scratch32_len,
                      uint8_t *output, size_t output_len, uint64_t *len);
-/* A block's pair of the block list, and three places in the block: where its entries end, where its restart offsets start, and
- * how many they are. */
+
+/* A block's pair of the block list, and three places in the block: where its entries end, where its restart offsets start, and how many
+ * these are. */
 struct kiban_block_record {
     uint64_t offset;
     uint64_t len;
@@ -75,14 +190,17 @@ struct kiban_block_record {
     uint64_t num_restarts;
 };
 
-/* Writes a record for each pair of the block list, in its order, once every pair passes 11 and 12 and has a place (41,
- * `records_len` places). On 0 `*count` is how many; records behind them stay as they were.
- * It took 8,412 bytes of stack for the worked store's block, of which 8,192 are the CRC tables. */
+/* Writes a record for each pair of the block list, in its order, once every pair passes 11 and 12 and has a place (41, `records_len` places). On
+ * 0 `*count` is how many, and the records behind them are kept. Stack: 8,420 bytes. */
 uint64_t kiban_fill_blocks(const uint8_t *data, size_t data_len, const uint64_t *blocks, size_t blocks_len,
                            struct kiban_block_record *records, size_t records_len, uint64_t *count);
 
-/* The lowest place with that offset among the records given, which may be any part of a list, counted from its start;
- * `records_len` if none has it. The result is a place and not a question's number. */
+/* The lowest place with that offset among the records given, which may be any part of a list, counted from its start; `records_len` if none has
+ * it. The result is a place, not a refusal. Stack: 16 bytes. */
 uint64_t kiban_find_block(const struct kiban_block_record *records, size_t records_len, uint64_t offset);
+
+#ifdef __cplusplus
+}
+#endif
 
 #endif
