@@ -93,7 +93,7 @@ fn rust_build(entries: &[Entry], offsets: &[u64], prefix: usize) -> Vec<u8> {
 }
 
 fn per_unit(name: String, units: usize, ours: Work, rust: Work) -> Row {
-    row(name, units, None, ours, rust)
+    row(name, units, Some(1.25), ours, rust)
 }
 
 #[cfg(has = "kiban_open")]
