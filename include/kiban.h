@@ -6,9 +6,10 @@
  * Memory. No entry allocates, keeps state, or holds on to a pointer: entries may be called from any thread, each call with memory that no
  * other one writes. What an entry writes must overlap no other memory of the same call, since the proofs rest on it; what is only read
  * may overlap. Byte buffers need no alignment, arrays of 32-bit and 64-bit numbers that of their type. A length of 0 is allowed everywhere;
- * the pointer beside it is not read, but should not be null. Scratch needs no initial contents, and what a call leaves in it has no meaning.
+ * the pointer beside it is not read, but must not be null. Scratch needs no initial contents, and what a call leaves in it has no meaning.
  *
- * Stack. The bytes named at the entries were measured on x86-64 with the worked store of document 01. */
+ * Stack. The bytes named at the entries were measured on x86-64 with the worked store of document 01. No entry recurses or has memory on the
+ * stack whose size depends on its input; other inputs may take other paths, so leave some room. */
 #ifndef KIBAN_H
 #define KIBAN_H
 
@@ -69,7 +70,13 @@ enum kiban_refusal {
 #define KIBAN_RECORD 16
 #define KIBAN_ANSWER 6
 
-/* Sizes that a caller needs. Each argument is used once; give unsigned numbers.
+/* Limits of the format and of the builder. */
+#define KIBAN_MAX_KEY 1048576    /* bytes of a key */
+#define KIBAN_MAX_VALUE 16777216 /* bytes of a value */
+#define KIBAN_MAX_KEYS 1048576   /* keys of a builder */
+#define KIBAN_MAX_PREFIX 24      /* bytes of a scan prefix */
+
+/* Sizes that a caller needs. Each argument is used once; give size_t or uint64_t, or small constants.
  * The key scratch of the openings, in bytes, for keys up to this length: */
 #define KIBAN_KEY_SCRATCH_LEN(longest_key) (2 * (longest_key))
 /* the output of kiban_open_packed, in bytes: always enough for a section of this length */
@@ -104,7 +111,7 @@ enum kiban_record_place {
 
 /* Places of an answer: six zeros if there is none. */
 enum kiban_answer_place {
-    KIBAN_A_FOUND = 0, /* 1 */
+    KIBAN_A_FOUND = 0, /* 1 if a version was found, a tombstone too: ask KIBAN_A_KIND */
     KIBAN_A_KIND = 1,  /* KIBAN_PUT or KIBAN_TOMBSTONE */
     KIBAN_A_SEQUENCE = 2,
     KIBAN_A_OFFSET = 3, /* of the value in the data */
@@ -134,8 +141,8 @@ enum kiban_builder_place {
  * 9,320 for more than 448 bytes of data. */
 uint32_t kiban_crc32(const uint8_t *data, size_t data_len);
 
-/* Opens a section beside its backing data and its block list (pairs of offset and length, `blocks_len` numbers in all). The scratch holds
- * two keys. On 0 the record is written. Stack: 9,460 bytes. */
+/* Opens a section beside its backing data and its block list: pairs of offset and length, `blocks_len` numbers in all, which cover the data from
+ * 0 to its end in order, without gaps (11, 22). The scratch has KIBAN_KEY_SCRATCH_LEN(longest key) bytes, else 15. On 0 the record is written. Stack: 9,460 bytes. */
 uint64_t kiban_open(const uint8_t *section, size_t section_len, const uint8_t *data, size_t data_len,
                     const uint64_t *blocks, size_t blocks_len, uint8_t *scratch, size_t scratch_len,
                     uint64_t record[KIBAN_RECORD]);
@@ -147,7 +154,8 @@ uint64_t kiban_open_packed(const uint8_t *section, size_t section_len, const uin
                            uint8_t *output, size_t output_len, uint64_t record[KIBAN_RECORD], uint64_t *len);
 
 /* Looks a key up in a section, or in a packed form, by the record that its opening wrote: the version of greatest sequence not above the
- * limit. On 0 the answer is written, six zeros for none. A packed form is given as exactly the `*len` bytes that kiban_open_packed counted, not
+ * limit, which may be a tombstone. On 0 the answer is written, six zeros for none. Where the record has checksums, kiban_crc32 of the value is
+ * the answer's checksum. A packed form is given as exactly the `*len` bytes that kiban_open_packed counted, not
  * as the whole output. Stack: 168 bytes. */
 uint64_t kiban_lookup(const uint8_t *section, size_t section_len, const uint64_t record[KIBAN_RECORD],
                       const uint8_t *key, size_t key_len, uint64_t limit, uint64_t answer[KIBAN_ANSWER]);
@@ -157,21 +165,23 @@ uint64_t kiban_value(const uint8_t *data, size_t data_len, uint64_t offset, uint
 
 /* The values of `count` neighbouring keys from key `first` on (counted from 0, in key order) under a limit: of each key's version of greatest
  * sequence not above the limit, unless that is a tombstone. On 0 the pairs (offset, length) stand in key order in the first 2 * `*found`
- * places, and the places behind them are kept. For sections with a scan part, opened plain. Stack: 552 bytes. */
+ * places, and the places behind them are kept. For sections with a scan part and 4-byte addresses,
+ * opened plain (27). No entry tells the place of a key among the keys. Stack: 552 bytes. */
 uint64_t kiban_span(const uint8_t *section, size_t section_len, const uint64_t record[KIBAN_RECORD],
                     uint64_t first, uint64_t count, uint64_t limit, uint64_t *pairs, size_t pairs_len, uint64_t *found);
 
 /* Adds an entry to a builder: a version of a new key (`new_key` not 0), or of the last key (`new_key` 0; its key must be the same, which is not
- * asked). `tombstone` 0 is a Put. The value's CRC-32 is kept, and `offset` as its place in the data. The first call is given a record of sixteen
+ * asked). `tombstone` 0 is a Put. Of the value its length, its CRC-32 and `offset`, its place in the data, are kept, not its bytes. The first call is given a record of sixteen
  * zeros; each later one the record and the used bytes of the area as the last one left them. The area may grow or move in between, and
  * what stands behind the used bytes does not matter. On 0 area and record hold the entry.
- * For a section that opens, entries are in order: keys rise, versions of a key fall in sequence, tombstones have empty values, and
- * each offset is where the value stands in the data. Stack: 1,304 bytes. */
+ * That the section opens is promised for entries in order: keys rise, versions of a key fall in sequence, tombstones have empty values, and
+ * each offset is where the value stands in the data. Stack: 1,304 bytes, and 9,528 for
+ * a value of more than 448 bytes. */
 uint64_t kiban_add(uint8_t *area, size_t area_len, uint64_t builder[KIBAN_RECORD], uint64_t tombstone,
                    const uint8_t *key, size_t key_len, const uint8_t *value, size_t value_len,
                    uint64_t sequence, uint64_t new_key, uint64_t offset);
 
-/* How many bytes kiban_write would write with this scan prefix. On 0 `*size` is written. Stack: 184 bytes. */
+/* How many bytes kiban_write would write with this scan prefix; it asks neither 35 nor 36. On 0 `*size` is written. Stack: 184 bytes. */
 uint64_t kiban_size(const uint64_t builder[KIBAN_RECORD], uint64_t prefix, uint64_t *size);
 
 /* Writes the section of the entries added, with a scan part for spans if the prefix is 1 to 24. The same entries and prefix give the same bytes on
@@ -180,8 +190,8 @@ uint64_t kiban_write(const uint8_t *area, size_t area_len, const uint64_t builde
                      uint64_t *scratch64, size_t scratch64_len, uint32_t *scratch32, size_t scratch32_len,
                      uint8_t *output, size_t output_len, uint64_t *len);
 
-/* A block's pair of the block list, and three places in the block: where its entries end, where its restart offsets start, and how many
- * these are. */
+/* A block's pair of the block list, and three numbers counted in the block: where its entries end, where its restart offsets start, and how
+ * many these are. */
 struct kiban_block_record {
     uint64_t offset;
     uint64_t len;

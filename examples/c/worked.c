@@ -26,8 +26,8 @@ static uint64_t add(struct builder *b, int tombstone, const char *key, size_t of
                      data + offset, len, sequence, (uint64_t)new_key, offset);
 }
 
-/* Builds the section with a scan prefix: its length, or 0 on a refusal. */
-static size_t build(uint64_t prefix, uint8_t *section, size_t room)
+/* Builds the section with a scan prefix: 0 and its length, or the refusal. */
+static uint64_t build(uint64_t prefix, uint8_t *section, size_t room, size_t *len)
 {
     struct builder b = {{0}, {0}};
     uint64_t refused = add(&b, 0, "ab", 23, 3, 7, 1);
@@ -39,15 +39,17 @@ static size_t build(uint64_t prefix, uint8_t *section, size_t room)
     uint64_t size = 0;
     if (!refused)
         refused = kiban_size(b.record, prefix, &size);
-    if (refused || room < size)
-        return 0;
+    if (!refused && room < size)
+        refused = KIBAN_SECTION_ROOM;
+    if (refused)
+        return refused;
 
     uint64_t scratch64[KIBAN_SCRATCH64_LEN(2)];
     uint32_t scratch32[KIBAN_SCRATCH32_LEN(2)];
-    uint64_t len = 0;
     refused = kiban_write(b.area, sizeof b.area, b.record, prefix, scratch64, KIBAN_SCRATCH64_LEN(2), scratch32,
-                          KIBAN_SCRATCH32_LEN(2), section, room, &len);
-    return refused ? 0 : (size_t)len;
+                          KIBAN_SCRATCH32_LEN(2), section, room, &size);
+    *len = (size_t)size;
+    return refused;
 }
 
 /* Prints what a lookup finds, as its sequence, kind and value. */
@@ -62,24 +64,31 @@ static void show(const char *form, const uint8_t *section, size_t section_len, c
         printf("none\n");
     } else {
         const char *kind = answer[KIBAN_A_KIND] == KIBAN_PUT ? "P" : "T";
-        size_t len = kiban_value(data, sizeof data, answer[KIBAN_A_OFFSET], answer[KIBAN_A_LENGTH]) ? 0 : (size_t)answer[KIBAN_A_LENGTH];
-        printf("%" PRIu64 " %s '%.*s'\n", answer[KIBAN_A_SEQUENCE], kind, (int)len, (const char *)data + answer[KIBAN_A_OFFSET]);
+        const char *value = "";
+        int len = 0;
+        if (!kiban_value(data, sizeof data, answer[KIBAN_A_OFFSET], answer[KIBAN_A_LENGTH])) {
+            value = (const char *)data + answer[KIBAN_A_OFFSET];
+            len = (int)answer[KIBAN_A_LENGTH];
+        }
+        printf("%" PRIu64 " %s '%.*s'\n", answer[KIBAN_A_SEQUENCE], kind, len, value);
     }
 }
 
 int main(void)
 {
     uint8_t section[256];
-    size_t len = build(1, section, sizeof section);
+    size_t len = 0;
+    if (build(1, section, sizeof section, &len))
+        return 1;
     printf("section of %zu bytes\n", len);
 
     /* Plain. */
     uint8_t scratch[KIBAN_KEY_SCRATCH_LEN(2)];
     uint64_t record[KIBAN_RECORD];
     uint64_t refused = kiban_open(section, len, data, sizeof data, blocks, 2, scratch, sizeof scratch, record);
-    printf("plain opening: %" PRIu64 ", %" PRIu64 " keys\n", refused, record[KIBAN_R_KEYS]);
     if (refused)
         return 1;
+    printf("plain opening: %" PRIu64 ", %" PRIu64 " keys\n", refused, record[KIBAN_R_KEYS]);
     show("plain", section, len, record, "ab", 7);
     show("plain", section, len, record, "ab", 6);
     show("plain", section, len, record, "ab", 2);
@@ -93,15 +102,15 @@ int main(void)
         printf(" (%" PRIu64 ", %" PRIu64 ")", pairs[2 * i], pairs[2 * i + 1]);
     printf("\n");
 
-    /* Packed: what the boot loader gets. */
+    /* Packed: what the boot loader gets, with packed_record. */
     uint8_t packed[KIBAN_PACKED_LEN(256)];
     uint64_t packed_record[KIBAN_RECORD];
     uint64_t packed_len = 0;
     refused = kiban_open_packed(section, len, data, sizeof data, blocks, 2, scratch, sizeof scratch, packed, sizeof packed,
                                 packed_record, &packed_len);
-    printf("packed opening: %" PRIu64 ", %" PRIu64 " bytes\n", refused, packed_len);
     if (refused)
         return 1;
+    printf("packed opening: %" PRIu64 ", %" PRIu64 " bytes\n", refused, packed_len);
     show("packed", packed, (size_t)packed_len, packed_record, "ab", 7);
     show("packed", packed, (size_t)packed_len, packed_record, "ac", 4);
 
@@ -109,5 +118,5 @@ int main(void)
     section[90] ^= 1;
     refused = kiban_open(section, len, data, sizeof data, blocks, 2, scratch, sizeof scratch, record);
     printf("a changed byte: %" PRIu64 "%s\n", refused, refused == KIBAN_SECTION_CRC ? " (CRC-32 of the section)" : "");
-    return 0;
+    return refused ? 0 : 1;
 }

@@ -1,4 +1,4 @@
-//! The entries of libkiban.a with slices and results: every refusal is an `Err` with its number (docs/REFUSALS.md).
+//! The entries of libkiban.a, but for those of block records, with slices and results: every refusal is an `Err` with its number (docs/REFUSALS.md).
 
 /// A refusal's number.
 #[derive(Debug, Clone, Copy, PartialEq, Eq)]
