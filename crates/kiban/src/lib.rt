@@ -86,8 +86,8 @@ pub extern "C" fn kiban_open_packed(
     }
 }
 
-// Looks a key up under a limit in an opened section, plain or packed, and writes the answer, six zeros for none: 0, or the number
-// of the question that failed, which leaves the answer as it was.
+// Looks a key up under a limit in an opened section, plain or packed, and writes the answer, six zeros for none. The result is 0, or the
+// number of the question that failed (24, 25), which leaves the answer as it was.
 #[no_mangle]
 pub extern "C" fn kiban_lookup(
     section: &[u8],
@@ -120,7 +120,8 @@ pub extern "C" fn kiban_lookup(
 }
 
 // The values of `count` keys from key `first` on under a limit, in an opened plain section with a scan part: writes a pair of offset
-// and length for each, in key order, and their number: 0, or the number of the question that failed, which leaves both as they were.
+// and length for each value found, in key order, and how many pairs there are. The result is 0, or the number of the question that failed
+// (24, 27, 28, 29, 25), which leaves both as they were.
 #[no_mangle]
 pub extern "C" fn kiban_span(
     section: &[u8],
@@ -223,8 +224,8 @@ pub extern "C" fn kiban_write(
     builds::write(area, builder, prefix, scratch64, scratch32, output, len)
 }
 
-// Fills the block records of a list's pairs, in their order, and writes how many they are: 0, or the number of the first question
-// that is answered with no, which leaves records and count as they were. Further records stay as they were.
+// Fills the block records of a list's pairs, in their order, and writes how many they are. The result is 0, or the number of the first
+// question that is answered with no (11, 12, 41), which leaves records and count as they were. Further records stay as they were.
 #[no_mangle]
 pub extern "C" fn kiban_fill_blocks(
     data: &[u8],

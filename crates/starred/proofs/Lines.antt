@@ -37,8 +37,8 @@ use Rattle.lookup.specs.Lookup.{lookup-defs}
 use Rattle.spans.specs.Span.{span-defs}
 use Rattle.writer.specs.Write.{write-defs}
 use Rattle.worked.specs.Worked.{worked-defs}
-use Rattle.starred.specs.Lines.{sectionWith, bytesOf, threeAdded, addedFrom, stateFor, offerFor, LinesHold, starredLines, answerTo, numberTold, versionTold, locatedTold, lookupTold, packedLookupTold, packedLenTold, pairsTold, spanTold, pilotTold, openingWith, packingWith}
+use Rattle.starred.specs.Lines.{sectionWith, bytesOf, threeAdded, addedFrom, stateFor, offerFor, LinesHold, starredLines, answerTo, numberTold, versionTold, locatedTold, lookupTold, packedLookupTold, packedLenTold, pairsTold, spanTold, withPilot, sealedWith, openingWith, packingWith}
 
 pub lines-hold : LinesHold
-unfolding LinesHold starredLines answerTo numberTold versionTold locatedTold lookupTold packedLookupTold packedLenTold pairsTold spanTold pilotTold openingWith packingWith sectionWith bytesOf threeAdded addedFrom stateFor offerFor valueOf worked-defs write-defs section-defs arena-written-defs joined fieldsBytes read-back-defs add-defs builder-defs offer-defs area-defs construct-defs class-defs encoding-defs hash-defs limit-defs kindNumber crc-defs commonPrefixLen equalBytes leAt leBytes choice-defs open-defs walk-defs version-defs key-defs header-defs opened-defs lessThan trailer-defs verify-defs record-at-defs entry-header-defs block-walk-defs kindOf packed-defs packing-defs locator-defs lookup-defs span-defs
+unfolding LinesHold starredLines answerTo numberTold versionTold locatedTold lookupTold packedLookupTold packedLenTold pairsTold spanTold withPilot sealedWith openingWith packingWith sectionWith bytesOf threeAdded addedFrom stateFor offerFor valueOf worked-defs write-defs section-defs arena-written-defs joined fieldsBytes read-back-defs add-defs builder-defs offer-defs area-defs construct-defs class-defs encoding-defs hash-defs limit-defs kindNumber crc-defs commonPrefixLen equalBytes leAt leBytes choice-defs open-defs walk-defs version-defs key-defs header-defs opened-defs lessThan trailer-defs verify-defs record-at-defs entry-header-defs block-walk-defs kindOf packed-defs packing-defs locator-defs lookup-defs span-defs
 lines-hold = refl

@@ -1,13 +1,13 @@
 -- Document 01's starred lines ("One store, worked through") in one array: a question and its answer, one element each.
 use mathlib.Core.Path.{_≡_}
 use mathlib.Core.Bool.{Bool, true, false}
-use mathlib.Core.List.{List, [], _∷_, map}
-use Prim.Native.Nat.{ℕ}
-use lib.ListN.{length, replicate}
+use mathlib.Core.List.{List, [], _∷_, _++_, map}
+use Prim.Native.Nat.{ℕ, _+_}
+use lib.ListN.{length, take, replicate}
 use lib.Seq.{sets}
 use Rattle.num.specs.Answer.{Answer, given, refused}
-use Rattle.num.specs.Choice.{if_then_else_}
 use Rattle.num.specs.Number.{leAt, leBytes}
+use Rattle.crc32.specs.V42.{crcOf}
 use Rattle.sstable.specs.declared.Kind.{Kind}
 use Rattle.sstable.specs.declared.Kind.the-variants.{Put, Tombstone}
 use Rattle.block.specs.Walk.{Entry}
@@ -18,7 +18,7 @@ use Rattle.header.specs.declared.HeaderRead.the-variants as header-read
 use Rattle.validate.specs.Walk.{valueOf}
 use Rattle.opening.specs.Open.{openOf}
 use Rattle.packed.specs.Packed.{packedPilots}
-use Rattle.packing.specs.Packing.{PackedForm, pilotPacks, openPackedOf}
+use Rattle.packing.specs.Packing.{PackedForm, openPackedOf}
 use Rattle.locator.specs.declared.Located.{Located}
 use Rattle.locator.specs.declared.Located.the-variants as located
 use Rattle.lookup.specs.Lookup.{locateOf, noLimit}
@@ -62,7 +62,7 @@ sectionWith prefix = bytesOf (writeOf (threeAdded .area) (threeAdded .builder) p
 
 -- what a line asks
 pub data Question : Type 0 where
-  -- the size told for a scan prefix, the length of the section written with it, and the number of prefixes stored in it
+  -- the size told for a scan prefix, the length of the section written with it, and the number of prefixes stored at 16 of its scan part
   size : ℕ → Question
   written : ℕ → Question
   prefixes : ℕ → Question
@@ -76,8 +76,9 @@ pub data Question : Type 0 where
   -- the width of a number, and of a longest value's length
   width : ℕ → Question
   valueWidth : ℕ → Question
-  -- the packed bytes of a pilot
+  -- a section with this first pilot: its packed bytes, and the packed opening of the section, sealed again
   pilot : ℕ → Question
+  pilotOpened : ℕ → Question
 
 -- what it is answered with
 pub data Told : Type 0 where
@@ -125,9 +126,12 @@ unfoldable pub spanTold : List ℕ → ℕ → HeaderRead → Told
 spanTold s limit (header-read.Accepted o) = pairsTold (spanOf s o 0 2 limit 4)
 spanTold s limit (header-read.Refused n) = refusal n
 
--- a section with another first pilot: question 8 of it, and its packed bytes
-unfoldable pub pilotTold : List ℕ → Told
-pilotTold s = if pilotPacks s 0 then bytes (packedPilots s 0 1) else refusal 8
+-- the section with scan prefix 0 and another first pilot, without its last four bytes, and with the CRC-32 that belongs there
+unfoldable pub withPilot : ℕ → List ℕ
+withPilot p = take 131 (sets (sectionWith 0) 64 (leBytes 4 p))
+
+unfoldable pub sealedWith : List ℕ → List ℕ
+sealedWith s = s ++ leBytes 4 (crcOf s)
 
 -- both openings of the section with a scan prefix beside the worked data, with the key scratch of program `keys`
 unfoldable pub openingWith : ℕ → HeaderRead
@@ -139,14 +143,15 @@ packingWith prefix = openPackedOf (sectionWith prefix) workedData workedList 327
 unfoldable pub answerTo : Question → Told
 answerTo (size prefix) = numberTold (sizeOfSection (threeAdded .builder) prefix)
 answerTo (written prefix) = number (length (sectionWith prefix))
-answerTo (prefixes prefix) = number (leAt (sectionWith prefix) 146 8)
+answerTo (prefixes prefix) = number (leAt (sectionWith prefix) (130 + 16) 8)
 answerTo (packed prefix) = packedLenTold (packingWith prefix)
 answerTo (lookup key limit) = lookupTold (sectionWith 0) key limit (openingWith 0)
 answerTo (lookupPacked key limit) = packedLookupTold key limit (packingWith 0)
 answerTo (span limit) = spanTold (sectionWith 1) limit (openingWith 1)
 answerTo (width n) = number (widthOf n)
 answerTo (valueWidth n) = number (valueWidthOf n)
-answerTo (pilot p) = pilotTold (sets (sectionWith 0) 64 (leBytes 4 p))
+answerTo (pilot p) = bytes (packedPilots (withPilot p) 0 1)
+answerTo (pilotOpened p) = packedLenTold (openPackedOf (sealedWith (withPilot p)) workedData workedList 32768 200)
 
 -- ---- the array
 
@@ -158,7 +163,7 @@ infix 20 _is_
 abbrev pub _is_ : Question → Told → Line
 _is_ q a = record { question = q; answer = a }
 
--- the starred lines, in document 01's order
+-- the starred lines, in document 01's order; beside them the length written, where it tells the size, and the lookups in the packed form
 unfoldable pub starredLines : List Line
 starredLines =
     (size 0 is number 135)
@@ -191,7 +196,7 @@ starredLines =
     ∷ (valueWidth 32767 is number 2)
     ∷ (valueWidth 32768 is number 4)
     ∷ (pilot 0x80000005 is bytes (0x05 ∷ 0x00 ∷ 0x80 ∷ []))
-    ∷ (pilot 0x00800000 is refusal 8)
+    ∷ (pilotOpened 0x00800000 is refusal 8)
     ∷ []
 
 -- promise P7: every line of the array is answered as it says
