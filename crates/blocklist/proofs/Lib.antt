@@ -1,3 +1,4 @@
 pub mod Filling
 pub mod Seeking
 pub mod Pairs
+pub mod Calls
