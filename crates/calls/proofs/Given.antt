@@ -17,7 +17,7 @@ use Rattle.numbered.proofs.Numbers.{reads-not-24}
 use Rattle.calls.specs.Calls.{Holding, GivesRecord, RecordCalls}
 
 -- both tests of question 24 at the entry
-passed : (h : Holding) → isRecordNumbers (h .numbers) ≡ true → isRecord (h .bytes) (openedOf (h .numbers)) ≡ true → GivesRecord h
+pub passed : (h : Holding) → isRecordNumbers (h .numbers) ≡ true → isRecord (h .bytes) (openedOf (h .numbers)) ≡ true → GivesRecord h
 unfolding isRecordNumbers RecordExactly
 passed h n r =
     let a = both-true _ _ n in
@@ -31,7 +31,7 @@ passed h n r =
       given = record-exactly (h .bytes) (openedOf (h .numbers)) .0 r;
     }
 
-numbers-pass : (h : Holding) → GivesRecord h → isRecordNumbers (h .numbers) ≡ true
+pub numbers-pass : (h : Holding) → GivesRecord h → isRecordNumbers (h .numbers) ≡ true
 unfolding isRecordNumbers
 numbers-pass h g =
     let z = g .zeros in
@@ -39,7 +39,7 @@ numbers-pass h g =
     (true-both _ _ (le-leb _ _ (g .packed))
     (true-both _ _ (eq-eqb _ _ (z .0)) (true-both _ _ (eq-eqb _ _ (z .1)) (eq-eqb _ _ (z .2)))))
 
-bytes-pass : (h : Holding) → GivesRecord h → isRecord (h .bytes) (openedOf (h .numbers)) ≡ true
+pub bytes-pass : (h : Holding) → GivesRecord h → isRecord (h .bytes) (openedOf (h .numbers)) ≡ true
 unfolding RecordExactly
 bytes-pass h g = record-exactly (h .bytes) (openedOf (h .numbers)) .1 (g .given)
 

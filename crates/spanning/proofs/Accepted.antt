@@ -9,7 +9,6 @@ use native.Mathlib.Nat.{zero-add}
 use native.Mathlib.Omega.{arith}
 use lib.Dec.{leb}
 use lib.ListN.{length, getD, take, drop}
-use lib.Seq.{take-length}
 use borrow.Author.Tests.{le-leb, lt-leb, leb-true, leb-false, eq-eqb, ne-eqb}
 use Rattle.num.specs.Answer.{given, refused}
 use Rattle.num.specs.Number.{Bytes}
@@ -38,7 +37,7 @@ use Rattle.locating.proofs.Plain.{plain-indexed}
 use Rattle.locating.proofs.Accepted.{store-indexed, lookup-exactly}
 use Rattle.spans.specs.Span.{Pair, unlessTombstone, scannable, spanOf}
 use Rattle.spans.proofs.Spans.{scanned}
-use Rattle.spanning.specs.Spans.{storeKeys, StoreKeysRise, keysSpanned, span, KeyGives, value, tombstone, none, SpanGives, noKey, nextKey, Scans, Spans, SpansExactly, locatedPairs, lookupPairs, SpanOfAll}
+use Rattle.spanning.specs.Spans.{storeKeys, StoreKeysRise, keysSpanned, span, KeyGives, value, tombstone, none, SpanGives, noKey, nextKey, Scans, Spans, SpansExactly, locatedPairs, lookupPairs, SpanIsLookups}
 use Rattle.spanning.proofs.Keys.{arenaKeys, keys-length, keys-at, keys-part, keys-in}
 use Rattle.spanning.proofs.Chain.{scanned-found}
 
@@ -152,7 +151,7 @@ scans-yes : (t : LinkerStore) → Scans t → scannable (t .opened) ≡ true
 unfolding scannable
 scans-yes t c = true-both _ _ (ap not (c .plain)) (true-both _ _ (ap not (ne-eqb _ _ (c .scan))) (eq-eqb _ _ (c .four)))
 
-yes-scans : (t : LinkerStore) → scannable (t .opened) ≡ true → Scans t
+pub yes-scans : (t : LinkerStore) → scannable (t .opened) ≡ true → Scans t
 yes-scans t e = let c = scanned (t .opened) e in record { plain = c .plain; scan = c .scan; four = c .four }
 
 module _ (t : LinkerStore) (st : Store t) (first count limit places : ℕ) where
@@ -192,14 +191,14 @@ module _ (t : LinkerStore) (st : Store t) (first count limit places : ℕ) where
           (sym (ap (λ (l : List (List ℕ)). take count (drop first l)) (store-keys t a) ∙ keys-part s o (o .count) first count (o .count - (first + count)) e))
 
 -- the answers of a span
-pub data Outcome (t : LinkerStore) (first count limit places : ℕ) : Type 0 where
+data Outcome (t : LinkerStore) (first count limit places : ℕ) : Type 0 where
   accepted : Scans t → first + count ≤ length (storeKeys t) → 2 * count ≤ places → Outcome t first count limit places
   declined : (n : ℕ) → (n ≡ 27) ⊎ (n ≡ 28) ⊎ (n ≡ 29) → span t first count limit places ≡ refused n → Outcome t first count limit places
 
 module _ (t : LinkerStore) (st : Store t) (first count limit places : ℕ) where
   open LinkerStore t using (opened as o)
 
-  pub span-outcome : Outcome t first count limit places
+  span-outcome : Outcome t first count limit places
   span-outcome = scans (scannable o) refl
     where
       l : length (storeKeys t) ≡ o .count
@@ -244,10 +243,8 @@ pub spans-exactly : SpansExactly
 unfolding SpansExactly
 spans-exactly t st b first count limit places = spans t st first count limit places b
 
--- the span of all keys lists what n lookups find
-pub span-of-all : SpanOfAll
-unfolding SpanOfAll keysSpanned
-span-of-all t st b c limit places h =
-    let l = keys-count t (arena t st) in
-    span-given t st 0 (length (storeKeys t)) limit places c (omega arith) b h
-    ∙ ap (λ (keys : List (List ℕ)). given (lookupPairs t limit keys)) (take-length (storeKeys t))
+-- a span lists what the lookups of its keys find
+pub span-is-lookups : SpanIsLookups
+unfolding SpanIsLookups
+span-is-lookups t st b c first count limit places k h =
+    let l = keys-count t (arena t st) in span-given t st first count limit places c (omega arith) b h

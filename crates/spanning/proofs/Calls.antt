@@ -2,32 +2,33 @@
 -- Assumes nothing.
 use mathlib.Core.Path.{_≡_, refl, sym, ap, _∙_, subst}
 use mathlib.Core.Logic.{_⊎_, inl, inr}
-use mathlib.Core.Bool.{Bool, true, false}
 use mathlib.Core.List.{List, List·Memᴰ, List·Memᴰ·head, List·Memᴰ·tail}
-use Prim.Native.Nat.{ℕ, zero, _*_, _≤_}
+use Prim.Native.Nat.{ℕ, _+_, _*_, _≤_}
 use native.Mathlib.Omega.{arith}
 use lib.ListN.{length, take, drop, length-append, length-take}
 use Rattle.num.specs.Answer.{Answer, given, refused}
-use Rattle.num.specs.Choice.{if_then_else_}
 use Rattle.num.specs.Number.{Bytes}
 use Rattle.num.proofs.Choice.{if-case}
 use Rattle.num.proofs.Lists.{part-sets-same, drop-sets-behind}
 use Rattle.header.specs.declared.Opened.{Opened}
+use Rattle.opened.specs.Opened.{isRecord}
 use Rattle.locating.specs.Store.{LinkerStore}
-use Rattle.numbers.specs.Numbers.{flagNumber, recordNumbers}
+use Rattle.locating.proofs.Accepted.{store-indexed}
+use Rattle.numbers.specs.Numbers.{recordNumbers, openedOf, isRecordNumbers}
 use Rattle.numbers.proofs.RecordNumbers.{record-read, record-is}
 use Rattle.numbered.specs.Numbers.{OwnNumber}
-use Rattle.spans.specs.Span.{Pair, spanOf, valuesFrom, pairNumbers, pairsWritten, spannedRead, spannedNumber}
-use Rattle.spans.specs.Internal.{isGiven}
-use Rattle.spans.proofs.Keys.{numbers-length, keys-25}
+use Rattle.spans.specs.Span.{Pair, scannable, spanOf, valuesFrom, pairNumbers, pairsWritten, spannedRead, spannedNumber}
+use Rattle.spans.proofs.Keys.{numbers-length}
 use Rattle.kiban.specs.Spans.{spanOfNumbers, foundWritten}
 use Rattle.kiban.proofs.Spans.{spanned-over}
-use Rattle.calls.specs.Calls.{place, Holding, holding, blocksHeld}
+use Rattle.calls.specs.Calls.{place, Holding, holding, blocksHeld, GivesRecord}
 use Rattle.calls.proofs.Answers.{storeHeld, HoldsStore, held-none, held-greatest}
 use Rattle.calls.proofs.Calls.{linker-holds}
-use Rattle.spanning.specs.Spans.{storeKeys, keysSpanned, span, KeyGives, value, tombstone, none, SpanGives, noKey, nextKey, Scans, Spans, SpansExactly}
-use Rattle.spanning.specs.Calls.{spanned, SpanCall, spanNumbers, SpansNumbered, NumbersScan, PairsLeft, Spanned, SpanCalls}
-use Rattle.spanning.proofs.Accepted.{Outcome, accepted, declined, span-outcome, spans-exactly}
+use Rattle.calls.proofs.Given.{passed}
+use Rattle.spanning.specs.Spans.{storeKeys, StoreKeysRise, keysSpanned, span, KeyGives, value, tombstone, none, SpanGives, noKey, nextKey, Scans, Spans, SpansExactly}
+use Rattle.spanning.specs.Calls.{spanned, SpanCall, spanNumbers, SpansNumbered, NumbersScan, SpanAnswer, SpanAsked, PairsLeft, SpanGiven, SpanCalls}
+use Rattle.spanning.proofs.Accepted.{store-keys-rise, yes-scans, spans-exactly}
+use Rattle.spanning.proofs.Asked.{read-number, scan-asked, span-asked}
 
 -- ---- every call
 
@@ -41,15 +42,13 @@ unfolding Own OwnNumber spannedNumber spannedRead
 one-of n m = inr m
 
 walk-own : (n : ℕ) (s : List ℕ) (o : Opened) (limit at : ℕ) → Own (valuesFrom n s o limit at)
-unfolding Own OwnNumber spannedNumber spannedRead isGiven
-walk-own n s o limit at = go (valuesFrom n s o limit at) refl
+unfolding Own OwnNumber
+walk-own n s o limit at = go (read-number n s o limit at)
   where
-    go : (a : Answer (List Pair)) → valuesFrom n s o limit at ≡ a → Own a
-    go (given ps) e = inl refl
-    go (refused m) e =
-        let f = sym e ∙ keys-25 n s o limit at (ap isGiven e) in
-        let same : 25 ≡ m = cc in
-        subst (λ (i : ℕ). Own (refused i)) same (one-of 25 (List·Memᴰ·tail (List·Memᴰ·head refl)))
+    go : (spannedNumber (spannedRead (valuesFrom n s o limit at)) ≡ 0) ⊎ (spannedNumber (spannedRead (valuesFrom n s o limit at)) ≡ 25)
+        → Own (valuesFrom n s o limit at)
+    go (inl e) = inl e
+    go (inr e) = inr (List·Memᴰ·tail (List·Memᴰ·head e))
 
 span-own : (s numbers : List ℕ) (first count limit places : ℕ) → Own (spanOfNumbers s numbers first count limit places)
 unfolding spanOfNumbers spanOf
@@ -114,36 +113,26 @@ span-few t limit keys qs (nextKey {ps = one} {qs = rest} k r) =
     let b = span-few t limit _ rest r in
     omega (arith, length-append one rest)
 
-not-zero : (n : ℕ) → (n ≡ 27) ⊎ (n ≡ 28) ⊎ (n ≡ 29) → n ≡ 0 → ⊥
-not-zero n (inl e) z = omega arith
-not-zero n (inr (inl e)) z = omega arith
-not-zero n (inr (inr e)) z = omega arith
-
-outcome : (h : Holding) (o : Opened) → HoldsStore h o → (first count limit places : ℕ) → Outcome (storeHeld h o) first count limit places
-outcome h o x first count limit places = span-outcome (storeHeld h o) (x .store) first count limit places
-
-flag-no : (b : Bool) → flagNumber b ≡ 0 → b ≡ false
-unfolding flagNumber if_then_else_
-flag-no true e = absurd (let z : _≡_ {A = ℕ} 1 0 = e in omega arith)
-flag-no false e = refl
-
 module _ (h : Holding) (o : Opened) (x : HoldsStore h o) where
   record-place : (i : ℕ) → place (h .numbers) i ≡ place (recordNumbers o) i
   record-place i = ap (λ (l : List ℕ). place l i) (x .numbers)
 
-  scans-numbers : Scans (storeHeld h o) → NumbersScan (h .numbers)
-  unfolding storeHeld recordNumbers flagNumber if_then_else_
-  scans-numbers c =
-      record { plain = record-place 12 ∙ ap flagNumber (c .plain); scan = λ e. c .scan (sym (record-place 11) ∙ e); four = record-place 5 ∙ c .four }
+  -- it holds a record's numbers, and the bytes give the record
+  gives-record : GivesRecord h
+  unfolding storeHeld
+  gives-record =
+      passed h (ap isRecordNumbers (x .numbers) ∙ record-is o)
+      (ap (isRecord (h .bytes)) (ap openedOf (x .numbers) ∙ record-read o) ∙ store-indexed (storeHeld h o) (x .store) .is-record)
 
   numbers-scans : NumbersScan (h .numbers) → Scans (storeHeld h o)
-  unfolding storeHeld recordNumbers
+  unfolding storeHeld
   numbers-scans n =
-      record {
-        plain = flag-no (o .packed) (sym (record-place 12) ∙ n .plain);
-        scan = λ e. n .scan (record-place 11 ∙ e);
-        four = sym (record-place 5) ∙ n .four;
-      }
+      yes-scans (storeHeld h o) (ap scannable (sym (ap openedOf (x .numbers) ∙ record-read o)) ∙ scan-asked h gives-record .1 n)
+
+  -- place 2 is the number of keys
+  keys-held : place (h .numbers) 2 ≡ length (storeKeys (blocksHeld h))
+  unfolding storeHeld recordNumbers StoreKeysRise
+  keys-held = record-place 2 ∙ sym (store-keys-rise (storeHeld h o) (x .store) .count) ∙ ap length (held-keys h o 0)
 
   module _ (b : Bytes (h .bytes)) (first count limit : ℕ) (c : SpanCall h first count limit) where
     -- the call spans the store
@@ -181,35 +170,49 @@ module _ (h : Holding) (o : Opened) (x : HoldsStore h o) where
           behind = ap (drop (2 * length ps)) (call-after (given ps) e) ∙ drop-sets-behind (pairNumbers ps) (c .before) 0 (2 * length ps) (omega arith);
         }
 
-    call-spanned : Outcome (storeHeld h o) first count limit (length (c .before)) → Spanned h first count limit c
+    asked : SpanAnswer h first count limit c
+    unfolding SpanAsked
+    asked = span-asked h first count limit c
+
+    -- the pairs of the keys spanned, where 27 to 29 are answered by yes
+    gives : NumbersScan (h .numbers) → first + count ≤ length (storeKeys (blocksHeld h)) → 2 * count ≤ length (c .before)
+        → (c .result ≡ 0)
+        × ((ps : List Pair) × SpanGives (blocksHeld h) limit (keysSpanned (blocksHeld h) first count) ps × PairsLeft h first count limit c ps)
     unfolding spannedNumber spannedRead keysSpanned
-    call-spanned (accepted y k l) =
-        let g = spans .gives y k l in
+    gives n k l =
+        let g = spans .gives (numbers-scans n) (omega (arith, ap length (held-keys h o limit))) l in
         let f = held-span h o limit _ (g .0) (g .2) in
         let m = span-few (blocksHeld h) limit _ (g .0) f in
-        let t = length-take count (drop first (storeKeys (storeHeld h o))) in
-        let z = call-result (given (g .0)) (g .1) in
-        record {
-          zero = (λ _. (scans-numbers y, omega (arith, ap length (held-keys h o limit)), l), λ _. z);
-          gives = λ _. (
+        let t = length-take count (drop first (storeKeys (storeHeld h o))) in (
+          call-result (given (g .0)) (g .1),
+          (
             g .0,
             subst (λ (keys : List (List ℕ)). SpanGives (blocksHeld h) limit (take count (drop first keys)) (g .0)) (held-keys h o limit) f,
             pairs-left (g .0) (g .1) (omega arith),
-          );
-          refusals = λ n. absurd (n z);
-        }
-    call-spanned (declined n w e) =
-        let r = call-result (refused n) e in
-        let some : c .result ≡ 0 → ⊥ = λ z. not-zero n w (sym r ∙ z) in
+          ),
+        )
+
+    -- 0 or 25 is the result only where they are
+    reads : (c .result ≡ 0) ⊎ (c .result ≡ 25)
+        → NumbersScan (h .numbers) × (first + count ≤ length (storeKeys (blocksHeld h))) × (2 * count ≤ length (c .before))
+    reads i = let q = asked .reads .0 i in let k = q .2 in (q .1, omega (arith, keys-held), q .3)
+
+    call-spanned : SpanGiven h first count limit c
+    call-spanned =
         record {
-          zero = (
-            λ z. absurd (some z),
-            λ q.
-                let g = spans .gives (numbers-scans (q .0)) (let l = q .1 in omega (arith, ap length (held-keys h o limit))) (q .2) .1 in
-                absurd (let z : _≡_ {A = ℕ} 0 1 = cc in omega arith),
+          zero = (λ z. reads (inl z), λ q. gives (q .0) (q .1) (q .2) .0);
+          gives = λ z. let q = reads (inl z) in gives (q .0) (q .1) (q .2) .1;
+          refused-27 = (λ e. asked .refused-27 .0 e .1, λ n. asked .refused-27 .1 (gives-record, n));
+          refused-28 = (
+            λ e. let q = asked .refused-28 .0 e in let k = q .2 in (q .1, omega (arith, keys-held)),
+            λ q. let k = q .1 in asked .refused-28 .1 (gives-record, q .0, omega (arith, keys-held)),
           );
-          gives = λ z. absurd (some z);
-          refusals = λ _. subst (λ (i : ℕ). (i ≡ 27) ⊎ (i ≡ 28) ⊎ (i ≡ 29)) (sym r) w;
+          refused-29 = (
+            λ e. let q = asked .refused-29 .0 e in let k = q .2 in (q .1, omega (arith, keys-held), q .3),
+            λ q. let k = q .1 in asked .refused-29 .1 (gives-record, q .0, omega (arith, keys-held), q .2),
+          );
+          never-24 = λ e. asked .refused-24 .0 e gives-record;
+          never-25 = λ e. let q = reads (inr e) in let z = gives (q .0) (q .1) (q .2) .0 in omega arith;
         }
 
 -- a span by a linker gives the values of the keys that it spans
@@ -217,4 +220,4 @@ pub span-calls : SpanCalls
 unfolding SpanCalls
 span-calls k b first count limit c =
     let x = linker-holds k in
-    call-spanned (holding k) (x .0) (x .1) b first count limit c (outcome (holding k) (x .0) (x .1) first count limit (length (c .before)))
+    call-spanned (holding k) (x .0) (x .1) b first count limit c

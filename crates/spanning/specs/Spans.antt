@@ -106,11 +106,11 @@ unfoldable pub lookupPairs : LinkerStore → ℕ → List (List ℕ) → List Pa
 lookupPairs t limit [] = []
 lookupPairs t limit (key ∷ keys) = locatedPairs (lookup t key limit) ++ lookupPairs t limit keys
 
--- the span of all keys lists what n lookups find, each of its key
-unfoldable pub SpanOfAll : Type 0
-SpanOfAll =
-    (t : LinkerStore) → Store t → Bytes (t .bytes) → Scans t → (limit places : ℕ) → 2 * length (storeKeys t) ≤ places
-    → span t 0 (length (storeKeys t)) limit places ≡ given (lookupPairs t limit (storeKeys t))
+-- a span lists what the lookups of its keys find, at the same offsets
+unfoldable pub SpanIsLookups : Type 0
+SpanIsLookups =
+    (t : LinkerStore) → Store t → Bytes (t .bytes) → Scans t → (first count limit places : ℕ) → first + count ≤ length (storeKeys t)
+    → 2 * count ≤ places → span t first count limit places ≡ given (lookupPairs t limit (keysSpanned t first count))
 
 -- for proofs alone: `unfolding spans-defs` opens the definitions of this file
 unfoldable pub spans-defs : ℕ
