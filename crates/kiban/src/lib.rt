@@ -17,12 +17,11 @@ ghost use Rattle.kiban.specs.Written.{lookupOf, answerWritten};
 ghost use Rattle.builds.specs.Built.{offerFrom, builderWritten, sizeWritten, sectionLenWritten};
 ghost use Rattle.blocks.specs.Blocks.{fillOf, filledRead, filledNumber, filledCount, filledPlaces, findOf, foundPlace};
 ghost use Rattle.spans.specs.Span.{pairsWritten, spannedRead, spannedNumber};
-ghost use Rattle.kiban.specs.Spans.{spanOfNumbers, foundWritten};
+ghost use Rattle.scans.specs.Spans.{spanOfNumbers, foundWritten};
 use blocks::BlockRecord;
 use header::HeaderRead;
 use locator::Located;
 use packing::PackedRead;
-use spans::Spanned;
 
 // The CRC-32 of the bytes: the 32-bit frame check sequence of ITU-T V.42.
 #[no_mangle]
@@ -136,18 +135,7 @@ pub extern "C" fn kiban_span(
         × (now (pairs .exit) ≡ pairsWritten (spanOfNumbers (now (section .entry)) (now (numbers .entry)) first count limit (length (now (pairs .entry)))) (now (pairs .entry)))
         × (now (found .exit) ≡ foundWritten (spanOfNumbers (now (section .entry)) (now (numbers .entry)) first count limit (length (now (pairs .entry)))) (now (found .entry))) ⌝ }
 {
-    if !numbers::is_record(numbers) {
-        return 24;
-    }
-    let o = numbers::read_record(numbers);
-    let spanned = spans::span(section, o, first, count, limit, pairs);
-    match spanned {
-        Spanned::Pairs(n) => {
-            *found = n;
-            0
-        }
-        Spanned::Refused(n) => n,
-    }
+    scans::span(section, numbers, first, count, limit, pairs, found)
 }
 
 // 26 where a value's offset and length do not lie in the data, else 0.

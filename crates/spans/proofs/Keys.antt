@@ -1,8 +1,8 @@
 -- The walk over key records, one key at a time.
 -- Assumes nothing.
-use mathlib.Core.Path.{_≡_, refl, sym, ap, ap₂, _∙_}
-use mathlib.Core.Bool.{Bool, true, false}
-use mathlib.Core.List.{List, [], _∷_, _++_}
+use mathlib.Core.Path.{_≡_, refl, sym, ap, ap₂, _∙_, subst⁻¹}
+use mathlib.Core.Bool.{Bool, true, false, not}
+use mathlib.Core.List.{List, [], _∷_, _++_, append-nil}
 use Prim.Native.Nat.{ℕ, zero, suc, _+_, _*_, _-_, _%_, _^_, _<_, _≤_}
 use native.Mathlib.Nat.{mul-le-mul, le-of-lt}
 use native.Mathlib.Omega.{arith}
@@ -18,14 +18,19 @@ use Rattle.num.proofs.Lists.{sets-append}
 use Rattle.sstable.specs.declared.Kind.{Kind}
 use Rattle.sstable.specs.declared.Kind.the-variants.{Put, Tombstone}
 use Rattle.encoding.specs.Encoding.{Widths, keyHeaderLenOf, versionLenOf}
+use Rattle.encoding.proofs.Widths.{widths-le}
 use Rattle.header.specs.declared.Opened.{Opened}
 use Rattle.arena.specs.declared.KeyHeader.{KeyHeader}
 use Rattle.arena.specs.Key.{keyHeaderAt}
+use Rattle.arena.specs.Internal.{Narrow}
 use Rattle.arena.proofs.Reading.{version-le, key-header-narrow}
 use Rattle.versions.specs.Version.{storedSeq}
 use Rattle.locator.specs.Locator.{readable}
-use Rattle.spans.specs.Span.{Pair, valueEnd, unlessTombstone, valueAt, valueFrom, versionsStart, keyValue, nextAddress, pairsJoined, valuesFrom, pairNumbers}
-use Rattle.spans.specs.Internal.{recordEnd, isGiven, pairsOf}
+use Rattle.spans.specs.Span.{Pair, valueEnd, unlessTombstone, valueAt, valueFrom, versionsStart, keyValue, nextAddress, pairsJoined, valuesFrom, pairNumbers, pairsWritten, spannedRead}
+use Rattle.spans.specs.declared.Spanned.the-variants.{Pairs, Refused}
+use Rattle.spans.specs.declared.VersionRead.{VersionRead}
+use Rattle.spans.specs.Internal.{valueRead, isRefused, isGiven, pairsOf}
+use Rattle.spans.proofs.Values.{read-given}
 
 -- ---- answers one behind the other
 
@@ -40,6 +45,11 @@ unfolding pairsJoined isGiven pairsOf
 pairs-joined (given ps) (given qs) e = refl
 pairs-joined (given ps) (refused n) e = false-true e
 pairs-joined (refused n) b e = false-true e
+
+joined-none : (a : Answer (List Pair)) → pairsJoined a (given []) ≡ a
+unfolding pairsJoined
+joined-none (given ps) = ap given (append-nil ps)
+joined-none (refused n) = refl
 
 -- what is given is given by its pairs
 pub given-pairs : (a : Answer (List Pair)) → isGiven a ≡ true → a ≡ given (pairsOf a)
@@ -137,109 +147,104 @@ module _ (s : List ℕ) (o : Opened) (limit at : ℕ) where
   unfolding valuesFrom
   keys-more n h = let e : n ≡ suc (n - 1) = omega arith in ap (λ (k : ℕ). valuesFrom k s o limit at) e
 
-  more-given : (n : ℕ) → 0 < n
-      → isGiven (valuesFrom n s o limit at) ≡ both (isGiven (keyValue s o limit at stands)) (isGiven (valuesFrom (n - 1) s o limit (nextAddress o at stands)))
-  more-given n h = ap isGiven (keys-more n h) ∙ given-joined _ _
+  -- the value of the key
+  abbrev pub key : Answer (List Pair)
+  key = keyValue s o limit at stands
+
+  -- and those of the keys behind it
+  abbrev pub others : ℕ → Answer (List Pair)
+  others n = valuesFrom (n - 1) s o limit (nextAddress o at stands)
+
+  -- one key alone
+  pub one-key : valuesFrom 1 s o limit at ≡ key
+  unfolding valuesFrom
+  one-key = joined-none key
 
   -- a key header outside the section is not read
-  pub key-outside : (n : ℕ) → 0 < n → length s < o .arena + at + keyHeaderLenOf (o .encoding) → isGiven (valuesFrom n s o limit at) ≡ false
-  unfolding keyValue readable isGiven
-  key-outside n h l =
-      more-given n h
-      ∙ sym (both-no _ _ (ap isGiven (if-false _ _ _ (lt-leb (o .arena + at + keyHeaderLenOf (o .encoding)) (length s) l))))
+  pub key-outside : length s < o .arena + at + keyHeaderLenOf (o .encoding) → key ≡ refused 25
+  unfolding keyValue readable
+  key-outside l = if-false _ _ _ (lt-leb (o .arena + at + keyHeaderLenOf (o .encoding)) (length s) l)
 
-  -- where nothing is refused, the key header is inside
-  pub given-header : (n : ℕ) → 0 < n → isGiven (valuesFrom n s o limit at) ≡ true → o .arena + at + keyHeaderLenOf (o .encoding) ≤ length s
-  unfolding readable
-  given-header n h e = go (readable s (o .arena + at) (keyHeaderLenOf (o .encoding))) refl
+  -- a key record by the numbers that code has of it
+  module _ {h : KeyHeader} {header : ℕ} (e : h ≡ stands) (eh : header ≡ keyHeaderLenOf (o .encoding)) where
+    pub key-versions : o .arena + at + header ≤ length s → valueFrom (h .versions) s o (o .arena + at + (header + h .«suffix_len»)) limit ≡ key
+    unfolding keyValue readable versionsStart
+    key-versions l =
+        ap₂ (λ (k : KeyHeader) (n : ℕ). valueFrom (k .versions) s o (o .arena + at + (n + k .«suffix_len»)) limit) e eh
+        ∙ sym (if-true _ _ _ (le-leb (o .arena + at + keyHeaderLenOf (o .encoding)) (length s) (omega arith)))
+
+    pub next-is : {size : ℕ} → size ≡ versionLenOf (o .encoding) → (at + (header + h .«suffix_len») + h .versions * size) % 2 ^ 32 ≡ nextAddress o at stands
+    unfolding nextAddress versionsStart
+    next-is {size} es =
+        ap₂ (λ (k : KeyHeader) (n : ℕ). (at + (n + k .«suffix_len») + k .versions * size) % 2 ^ 32) e eh
+        ∙ ap (λ (n : ℕ). (at + versionsStart o stands + stands .versions * n) % 2 ^ 32) es
+
+    -- its suffix length has four bytes at most, and so has the number of versions
+    pub record-bounds : Bytes s → Widths (o .encoding) → {size : ℕ} → size ≡ versionLenOf (o .encoding)
+        → (header ≤ 28) × (h .«suffix_len» < 2 ^ 32) × (h .versions * size ≤ 2 ^ 32 * 24)
+    unfolding keyHeaderLenOf
+    record-bounds b w {size} es =
+        let n = subst⁻¹ Narrow e (key-header-narrow s (o .encoding) (o .arena + at) b w) in
+        let m = widths-le (o .encoding) w in
+        let l : size ≤ 24 = omega (arith, version-le (o .encoding) w) in
+        (omega arith, n .suffix, mul-le-mul (le-of-lt (n .versions)) l)
+
+  -- where the key is not refused, its header is inside
+  pub key-inside : isGiven key ≡ true → o .arena + at + keyHeaderLenOf (o .encoding) ≤ length s
+  unfolding readable isGiven
+  key-inside e = go (readable s (o .arena + at) (keyHeaderLenOf (o .encoding))) refl
     where
       go : (b : Bool) → readable s (o .arena + at) (keyHeaderLenOf (o .encoding)) ≡ b → o .arena + at + keyHeaderLenOf (o .encoding) ≤ length s
       go true p = leb-true _ _ p
-      go false p = false-true (sym (key-outside n h (leb-false _ _ p)) ∙ e)
+      go false p = false-true (sym (ap isGiven (key-outside (leb-false _ _ p))) ∙ e)
 
-  -- the numbers of a key record as code has them
-  module _ {header size suffix versions : ℕ} (eh : header ≡ keyHeaderLenOf (o .encoding)) (es : size ≡ versionLenOf (o .encoding))
-      (ex : suffix ≡ leAt s (o .arena + at + (o .encoding .address + o .encoding .key)) (o .encoding .key))
-      (ev : versions ≡ leAt s (o .arena + at + (o .encoding .address + o .encoding .key) + o .encoding .key) (o .encoding .count)) where
-    suffix-is : suffix ≡ stands .«suffix_len»
-    unfolding keyHeaderAt
-    suffix-is = ex ∙ ap (λ (n : ℕ). leAt s n (o .encoding .key)) (omega arith)
+  -- what was read of it says whether it is refused
+  pub key-told : (v : VersionRead) → valueRead s o v ≡ key → {b : Bool} → isRefused v ≡ b → isGiven key ≡ not b
+  key-told v e r = ap isGiven (sym e) ∙ read-given s o v ∙ ap not r
 
-    versions-is : versions ≡ stands .versions
-    unfolding keyHeaderAt
-    versions-is = ev ∙ ap (λ (n : ℕ). leAt s n (o .encoding .count)) (omega arith)
+  key-few : length (pairsOf key) ≤ 1
+  unfolding keyValue pairsOf
+  key-few = if-case (λ a. length (pairsOf a) ≤ 1) _ _ _ (λ _. from-few _ s o _ limit) (λ _. omega arith)
 
-    start-is : header + suffix ≡ versionsStart o stands
-    unfolding versionsStart
-    start-is = ap₂ _+_ eh suffix-is
+  -- a key that is refused refuses all, and one that is given leaves it to the others
+  pub key-judged : (n : ℕ) → 0 < n → isGiven (valuesFrom n s o limit at) ≡ both (isGiven key) (isGiven (others n))
+  key-judged n h = ap isGiven (keys-more n h) ∙ given-joined _ _
 
-    pub next-is : (at + (header + suffix) + versions * size) % 2 ^ 32 ≡ nextAddress o at stands
-    unfolding nextAddress
-    next-is = ap₂ (λ (a b : ℕ). (at + a + b) % 2 ^ 32) start-is (ap₂ _*_ versions-is es)
+  -- where nothing is refused, neither this key nor the others are, and the pairs of both are those of all
+  pub key-given : (n : ℕ) → 0 < n → isGiven (valuesFrom n s o limit at) ≡ true
+      → (isGiven key ≡ true) × (isGiven (others n) ≡ true) × (pairsOf (valuesFrom n s o limit at) ≡ pairsOf key ++ pairsOf (others n))
+  key-given n h e =
+      let m = keys-more n h in
+      let b = both-true _ _ (sym (key-judged n h) ∙ e) in
+      (b .0, b .1, ap pairsOf m ∙ pairs-joined key (others n) (sym (ap isGiven m) ∙ e))
 
-    pub end-is : at + (header + suffix) + versions * size ≡ recordEnd o at stands
-    unfolding recordEnd
-    end-is = ap₂ (λ (a b : ℕ). at + a + b) start-is (ap₂ _*_ versions-is es)
+  -- once its pair is stored, the pairs of the others are to be stored behind it
+  pub key-stored : (n : ℕ) → 0 < n → isGiven (valuesFrom n s o limit at) ≡ true → (l : List ℕ) (to : ℕ) {m : List ℕ} {next : ℕ}
+      → next ≡ to + 2 * length (pairsOf key) → m ≡ sets l to (pairNumbers (pairsOf key))
+      → (next ≤ to + 2) × (length m ≡ length l) × (next + 2 * length (pairsOf (others n)) ≡ to + 2 * length (pairsOf (valuesFrom n s o limit at)))
+      × (sets m next (pairNumbers (pairsOf (others n))) ≡ sets l to (pairNumbers (pairsOf (valuesFrom n s o limit at))))
+  key-stored n h e l to en em =
+      let g = key-given n h e .2 in
+      let f = key-few in
+      let k = length-append (pairsOf key) (pairsOf (others n)) in
+      let a = ap length g in (
+        omega arith,
+        ap length em ∙ length-sets l to (pairNumbers (pairsOf key)),
+        omega arith,
+        ap₂ (λ (r : List ℕ) (i : ℕ). sets r i (pairNumbers (pairsOf (others n)))) em en
+            ∙ pairs-stored l to (pairsOf key) (pairsOf (others n))
+            ∙ ap (λ (ps : List Pair). sets l to (pairNumbers ps)) (sym g),
+      )
 
-    -- the suffix length has four bytes at most, and so has the number of versions
-    pub record-bounds : Bytes s → Widths (o .encoding) → (suffix < 2 ^ 32) × (versions < 2 ^ 32) × (versions * size ≤ 2 ^ 32 * 24)
-    record-bounds b w =
-        let n = key-header-narrow s (o .encoding) (o .arena + at) b w in
-        let x = n .suffix in
-        let v = n .versions in
-        let a = suffix-is in
-        let c = versions-is in
-        let l : versions < 2 ^ 32 = omega arith in
-        let m : size ≤ 24 = omega (arith, version-le (o .encoding) w) in
-        (omega arith, l, mul-le-mul (le-of-lt l) m)
+-- ---- the answers
 
-    -- the value of the key, by the code's numbers
-    abbrev found : Answer (List Pair)
-    found = valueFrom versions s o (o .arena + at + (header + suffix)) limit
+module _ (a : Answer (List Pair)) (l : List ℕ) where
+  pub refused-told : a ≡ refused 25 → (Refused 25 ≡ spannedRead a) × (l ≡ pairsWritten a l)
+  unfolding spannedRead pairsWritten
+  refused-told e = (sym (ap spannedRead e), sym (ap (λ (x : Answer (List Pair)). pairsWritten x l) e))
 
-    -- and the keys behind it
-    abbrev rest : ℕ → Answer (List Pair)
-    rest n = valuesFrom (n - 1) s o limit ((at + (header + suffix) + versions * size) % 2 ^ 32)
-
-    found-is : o .arena + at + header ≤ length s → keyValue s o limit at stands ≡ found
-    unfolding keyValue readable
-    found-is l =
-        if-true _ _ _ (le-leb (o .arena + at + keyHeaderLenOf (o .encoding)) (length s) (omega arith))
-        ∙ ap₂ (λ (k a : ℕ). valueFrom k s o (o .arena + at + a) limit) (sym versions-is) (sym start-is)
-
-    module _ (n : ℕ) (h : 0 < n) where
-      more-is : o .arena + at + header ≤ length s → valuesFrom n s o limit at ≡ pairsJoined found (rest n)
-      more-is l =
-          keys-more n h
-          ∙ ap₂ pairsJoined (found-is l) (ap (λ (a : ℕ). valuesFrom (n - 1) s o limit a) (sym next-is))
-
-      -- a key that is refused refuses all, and one that is given leaves it to the others
-      pub key-judged : o .arena + at + header ≤ length s → isGiven (valuesFrom n s o limit at) ≡ both (isGiven found) (isGiven (rest n))
-      key-judged l = ap isGiven (more-is l) ∙ given-joined _ _
-
-      -- where nothing is refused, neither this key nor the others are, and the pairs of both are those of all
-      pub key-given : isGiven (valuesFrom n s o limit at) ≡ true
-          → (isGiven found ≡ true) × (isGiven (rest n) ≡ true) × (pairsOf (valuesFrom n s o limit at) ≡ pairsOf found ++ pairsOf (rest n))
-      key-given e =
-          let l = given-header n h e in
-          let m = more-is (omega arith) in
-          let b = both-true _ _ (sym (given-joined found (rest n)) ∙ sym (ap isGiven m) ∙ e) in
-          (b .0, b .1, ap pairsOf m ∙ pairs-joined found (rest n) (sym (ap isGiven m) ∙ e))
-
-      -- once its pair is stored, the pairs of the others are to be stored behind it
-      pub key-stored : isGiven (valuesFrom n s o limit at) ≡ true → (l : List ℕ) (to : ℕ) {m : List ℕ} {next : ℕ}
-          → next ≡ to + 2 * length (pairsOf found) → m ≡ sets l to (pairNumbers (pairsOf found))
-          → (next ≤ to + 2) × (length m ≡ length l) × (next + 2 * length (pairsOf (rest n)) ≡ to + 2 * length (pairsOf (valuesFrom n s o limit at)))
-          × (sets m next (pairNumbers (pairsOf (rest n))) ≡ sets l to (pairNumbers (pairsOf (valuesFrom n s o limit at))))
-      key-stored e l to en em =
-          let g = key-given e .2 in
-          let f = from-few versions s o (o .arena + at + (header + suffix)) limit in
-          let k = length-append (pairsOf found) (pairsOf (rest n)) in
-          let a = ap length g in (
-            omega arith,
-            ap length em ∙ length-sets l to (pairNumbers (pairsOf found)),
-            omega arith,
-            ap₂ (λ (r : List ℕ) (i : ℕ). sets r i (pairNumbers (pairsOf (rest n)))) em en
-                ∙ pairs-stored l to (pairsOf found) (pairsOf (rest n))
-                ∙ ap (λ (ps : List Pair). sets l to (pairNumbers ps)) (sym g),
-          )
+  pub given-told : isGiven a ≡ true → {n : ℕ} {m : List ℕ} → n ≡ length (pairsOf a) → m ≡ sets l 0 (pairNumbers (pairsOf a)) → (Pairs n ≡ spannedRead a) × (m ≡ pairsWritten a l)
+  unfolding spannedRead pairsWritten
+  given-told t en em =
+      let g = given-pairs a t in
+      (ap Pairs en ∙ sym (ap spannedRead g), em ∙ sym (ap (λ (x : Answer (List Pair)). pairsWritten x l) g))

@@ -1,4 +1,2 @@
 pub mod Values
 pub mod Keys
-pub mod Whole
-pub mod Spans

@@ -1,7 +1,7 @@
 -- The walk over the versions of a key, one version at a time.
 -- Assumes nothing.
 use mathlib.Core.Path.{_≡_, refl, sym, ap, ap₂, _∙_}
-use mathlib.Core.Bool.{Bool, true, false}
+use mathlib.Core.Bool.{Bool, true, false, not}
 use mathlib.Core.List.{List, [], _∷_}
 use Prim.Native.Nat.{ℕ, suc, _+_, _*_, _-_, _^_, _<_, _≤_}
 use native.Mathlib.Nat.{mod-eq-of-lt}
@@ -10,7 +10,7 @@ use native.Mathlib.Omega.{arith}
 use lib.Dec.{leb, ltb}
 use lib.ListN.{length, set}
 use lib.Seq.{sets}
-use borrow.Author.Tests.{eq-eqb, ne-eqb, le-leb, lt-leb, lt-ltb, le-ltb, leb-true, ltb-true}
+use borrow.Author.Tests.{le-leb, lt-leb, lt-ltb, le-ltb, leb-true, ltb-true}
 use Rattle.num.specs.Answer.{Answer, given, refused}
 use Rattle.num.specs.Choice.{if_then_else_, both}
 use Rattle.num.specs.Number.{leAt}
@@ -21,7 +21,9 @@ use Rattle.header.specs.declared.Opened.{Opened}
 use Rattle.versions.specs.Version.{storedSeq, storedValue, kindIn, lengthIn, storedOffset}
 use Rattle.locator.specs.Locator.{readable}
 use Rattle.spans.specs.Span.{Pair, valueEnd, unlessTombstone, valueAt, valueFrom, pairNumbers}
-use Rattle.spans.specs.Internal.{valueOr, isGiven, pairsOf}
+use Rattle.spans.specs.declared.VersionRead.{VersionRead}
+use Rattle.spans.specs.declared.VersionRead.the-variants.{At, Absent, Refused}
+use Rattle.spans.specs.Internal.{valueRead, isRefused, isGiven, pairsOf}
 
 module _ (s : List ℕ) (o : Opened) (pos limit : ℕ) where
   -- is its sequence read inside the section, and its sum below 2^64?
@@ -98,6 +100,14 @@ module _ (s : List ℕ) (o : Opened) (pos limit : ℕ) where
       go true = refl
       go false = refl
 
+  pub met-inside : pos + valueEnd (o .encoding) ≤ length s → met ≡ given (valueAt s o pos)
+  unfolding readable
+  met-inside l = if-true _ _ _ (le-leb (pos + valueEnd (o .encoding)) (length s) l)
+
+  pub met-outside : length s < pos + valueEnd (o .encoding) → met ≡ refused 25
+  unfolding readable
+  met-outside l = if-false _ _ _ (lt-leb (pos + valueEnd (o .encoding)) (length s) l)
+
   -- a version within the limit that is given is the answer
   pub newest-met : (n : ℕ) → 0 < n → isGiven (valueFrom n s o pos limit) ≡ true → storedSeq s o pos ≤ limit
       → (pos + valueEnd (o .encoding) ≤ length s) × (pairsOf (valueFrom n s o pos limit) ≡ valueAt s o pos)
@@ -114,21 +124,6 @@ module _ (s : List ℕ) (o : Opened) (pos limit : ℕ) where
   newest-passed n h e w = let g = given-read n h e in value-above n h (g .0) (g .1) w
 
 -- ---- the value at a place, as it is stored
-
--- at place 0 there is none
-pub value-nowhere : (s : List ℕ) (o : Opened) (pos : ℕ) → pos ≡ 0 → valueOr s o pos ≡ []
-unfolding valueOr
-value-nowhere s o pos e = if-true _ _ _ (eq-eqb pos 0 e)
-
-pub value-there : (s : List ℕ) (o : Opened) (pos : ℕ) → 0 < pos → valueOr s o pos ≡ valueAt s o pos
-unfolding valueOr
-value-there s o pos h = if-false _ _ _ (ne-eqb pos 0 (λ e. omega arith))
-
--- and the output is left
-pub nowhere-put : (s : List ℕ) (o : Opened) (pos : ℕ) → pos ≡ 0 → (l : List ℕ) (to : ℕ)
-    → (to ≡ to + 2 * length (valueOr s o pos)) × (l ≡ sets l to (pairNumbers (valueOr s o pos)))
-unfolding pairNumbers
-nowhere-put s o pos z l to = let e = value-nowhere s o pos z in (rw e (omega arith), rw e)
 
 module _ (s : List ℕ) (o : Opened) (pos : ℕ) {top stored : ℕ} (et : top ≡ tombstoneOf (o .encoding))
     (ev : stored ≡ leAt s (pos + o .encoding .seq) (o .encoding .value)) where
@@ -149,12 +144,20 @@ module _ (s : List ℕ) (o : Opened) (pos : ℕ) {top stored : ℕ} (et : top �
       (ap₂ (λ (a b : ℕ). record { offset = a; len = b }) p m)
 
   -- a tombstone leaves the output
-  pub none-put : top ≤ stored → 0 < pos → (l : List ℕ) (to : ℕ) → (to ≡ to + 2 * length (valueOr s o pos)) × (l ≡ sets l to (pairNumbers (valueOr s o pos)))
+  pub none-put : top ≤ stored → (l : List ℕ) (to : ℕ) → (to ≡ to + 2 * length (valueAt s o pos)) × (l ≡ sets l to (pairNumbers (valueAt s o pos)))
   unfolding pairNumbers
-  none-put h p l to = let e = value-there s o pos p ∙ tombstone-none h in (rw e (omega arith), rw e)
+  none-put h l to = let e = tombstone-none h in (rw e (omega arith), rw e)
 
   -- another version puts its pair there
-  pub pair-put : stored < top → 0 < pos → {offset : ℕ} → offset ≡ leAt s (pos + o .encoding .seq + o .encoding .value) 4 → o .encoding .address ≡ 4
-      → (l : List ℕ) (to : ℕ) → (to + 2 ≡ to + 2 * length (valueOr s o pos)) × (set (set l to offset) (to + 1) stored ≡ sets l to (pairNumbers (valueOr s o pos)))
+  pub pair-put : stored < top → {offset : ℕ} → offset ≡ leAt s (pos + o .encoding .seq + o .encoding .value) 4 → o .encoding .address ≡ 4
+      → (l : List ℕ) (to : ℕ) → (to + 2 ≡ to + 2 * length (valueAt s o pos)) × (set (set l to offset) (to + 1) stored ≡ sets l to (pairNumbers (valueAt s o pos)))
   unfolding pairNumbers
-  pair-put h p eo four l to = let e = value-there s o pos p ∙ put-pair h eo four in (rw e (omega arith), rw (e, add-one))
+  pair-put h eo four l to = let e = put-pair h eo four in (rw e (omega arith), rw (e, add-one))
+
+-- ---- what was read of a key
+
+pub read-given : (s : List ℕ) (o : Opened) (v : VersionRead) → isGiven (valueRead s o v) ≡ not (isRefused v)
+unfolding isGiven valueRead isRefused
+read-given s o (At pos) = refl
+read-given s o Absent = refl
+read-given s o Refused = refl

@@ -3,16 +3,14 @@ use mathlib.Core.Path.{_≡_}
 use mathlib.Core.List.{List, []}
 use mathlib.Core.Bool.{Bool, true, false}
 use Prim.Native.Nat.{ℕ, suc, _+_, _*_, _^_, _<_, _≤_}
-use lib.Dec.{eqb}
 use lib.ListN.{length}
 use Rattle.num.specs.Answer.{Answer, given, refused}
-use Rattle.num.specs.Choice.{if_then_else_}
 use Rattle.encoding.specs.Encoding.{Widths, versionLenOf}
 use Rattle.header.specs.declared.Opened.{Opened}
 use Rattle.arena.specs.declared.KeyHeader.{KeyHeader}
-use Rattle.arena.specs.Key.{keyHeaderAt}
-use Rattle.versions.specs.Version.{storedSeq}
-use Rattle.spans.specs.Span.{Pair, scanAddress, valueAt, versionsStart}
+use Rattle.spans.specs.Span.{Pair, valueEnd, valueAt, versionsStart}
+use Rattle.spans.specs.declared.VersionRead.{VersionRead}
+use Rattle.spans.specs.declared.VersionRead.the-variants.{At, Absent, Refused}
 
 -- a record whose header passed questions 3 to 6 and 27
 pub record Spannable (o : Opened) : Type 0 where
@@ -24,20 +22,22 @@ pub record Spannable (o : Opened) : Type 0 where
 unfoldable pub recordEnd : Opened → ℕ → KeyHeader → ℕ
 recordEnd o address h = address + versionsStart o h + h .versions * versionLenOf (o .encoding)
 
--- the address behind the record of a key, by its place among the keys, at its scan address
-unfoldable pub keyEnd : List ℕ → Opened → ℕ → ℕ
-keyEnd s o i = recordEnd o (scanAddress s o i) (keyHeaderAt s (o .encoding) (o .arena + scanAddress s o i))
+-- the answer of what was read of a key
+unfoldable pub valueRead : List ℕ → Opened → VersionRead → Answer (List Pair)
+valueRead s o (At pos) = given (valueAt s o pos)
+valueRead s o Absent = given []
+valueRead s o Refused = refused 25
 
--- some keys from one on have their records whole in the section, and the scan address of each but the first names what stands behind the one
--- before; no sequence sum is beyond 64 bits
-pub record WholeKeys (s : List ℕ) (o : Opened) (first count : ℕ) : Type 0 where
-  pub sums : (pos : ℕ) → storedSeq s o pos < 2 ^ 64
-  pub inside : (i : ℕ) → i < count → o .arena + keyEnd s o (first + i) ≤ length s
-  pub behind : (i : ℕ) → suc i < count → keyEnd s o (first + i) ≡ scanAddress s o (first + suc i)
+-- a version that was read lies in the section
+unfoldable pub Inside : List ℕ → Opened → VersionRead → Type 0
+Inside s o (At pos) = pos + valueEnd (o .encoding) ≤ length s
+Inside s o Absent = Unit {0}
+Inside s o Refused = Unit {0}
 
--- the value of the version at a place, none at place 0, where no version stands
-unfoldable pub valueOr : List ℕ → Opened → ℕ → List Pair
-valueOr s o pos = if eqb pos 0 then [] else valueAt s o pos
+unfoldable pub isRefused : VersionRead → Bool
+isRefused (At pos) = false
+isRefused Absent = false
+isRefused Refused = true
 
 -- was nothing refused?
 unfoldable pub isGiven : Answer (List Pair) → Bool

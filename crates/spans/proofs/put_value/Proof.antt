@@ -1,108 +1,51 @@
 use native.Mathlib.Omega.{arith}
-use lib.ListN.{length-set}
-use Rattle.arena.proofs.Reading.{widths-read}
-use Rattle.spans.specs.Span.{valueEnd}
-use Rattle.spans.proofs.Values.{nowhere-put, none-put, pair-put}
+use Rattle.spans.specs.Span.{pairNumbers}
+use Rattle.spans.specs.Internal.{Inside, valueRead, pairsOf}
 use borrow.Author.Needs.{needs}
 use Rattle.spans.proofs.put_value.Statement.{statement}
 use Rattle.spans.proofs.put_value.Tie as tie
 
-returns : tie.Need-returns
-returns c =
-    let args = c .before .before .before .args in
-    nowhere-put (args .section .now) (args .o) (args .pos) (search needs) (args .pairs .now) (args .to)
+enum-known-read : tie.Need-enum-known-read
+enum-known-read c = search needs
 
-add-value : tie.Need-add-value
-unfolding valueEnd
-add-value c =
-    let pre = c .before .before .before .before .before .pre in
-    omega (arith, pre .1 .0 (search needs))
-
-uint-requires : tie.Need-uint-requires
-unfolding valueEnd
-uint-requires c κs =
-    let pre = c .before .before .before .before .before .pre in
-    (omega (arith, pre .1 .0 (search needs)), widths-read _ (pre .0 .widths) .4)
-
-tombstone-requires : tie.Need-tombstone-requires
-tombstone-requires c κs =
+put-version-requires : tie.Need-put-version-requires
+unfolding Inside
+put-version-requires c κs =
     let pre = c .before .before .before .before .before .before .pre in
-    pre .0 .widths
+    (pre .0, (rw (c .before .before .read .given .1) at (pre .1 .0), pre .1 .1))
 
-returns-2 : tie.Need-returns-2
-returns-2 c =
-    let args = c .before .before .before .before .before .before .before .before .args in
-    let tombstone = c .before .tombstone in
-    let uint = c .before .before .uint in
-    none-put (args .section .now) (args .o) (args .pos) (tombstone .ensures) (uint .ensures) (search needs) (search needs) (args .pairs .now) (args .to)
+enum-told : tie.Need-enum-told
+enum-told c = search needs
 
-add-u32-at : tie.Need-add-u32-at
-unfolding valueEnd
-add-u32-at c =
-    let pre = c .before .before .before .before .before .before .before .before .before .pre in
-    omega (arith, pre .1 .0 (search needs))
-
-u32-at-requires : tie.Need-u32-at-requires
-unfolding valueEnd
-u32-at-requires c κs =
-    let pre = c .before .before .before .before .before .before .before .before .before .pre in
-    let four = pre .0 .four in
-    omega (arith, pre .1 .0 (search needs))
-
-cast-pairs : tie.Need-cast-pairs
-cast-pairs c = search needs
-
-mul-pairs : tie.Need-mul-pairs
-mul-pairs c = search needs
-
-slice-write-pairs : tie.Need-slice-write-pairs
-slice-write-pairs c = search needs
-
-add-pairs : tie.Need-add-pairs
-add-pairs c = search needs
-
-mul-pairs-2 : tie.Need-mul-pairs-2
-mul-pairs-2 c = search needs
-
-slice-write-pairs-2 : tie.Need-slice-write-pairs-2
-slice-write-pairs-2 c =
-    let pre = c .before .before .before .before .before .before .before .before .before .before .pre in
-    let args = c .before .before .before .before .before .before .before .before .before .before .args in
-    let u32-at = c .u32-at in
-    omega (arith, pre .1 .1, length-set (args .pairs .now) (args .to) (u32-at .result))
-
-add-result : tie.Need-add-result
-add-result c = search needs
+enum-told-2 : tie.Need-enum-told-2
+enum-told-2 c = search needs
 
 same-length : tie.Need-same-length
 same-length c = search needs
 
+returns : tie.Need-returns
+unfolding valueRead pairsOf
+returns c =
+    let e = c .before .before .before .before .before .read .given .1 in
+    rw e (c .before .before .put-version .ensures)
+
+returns-2 : tie.Need-returns-2
+unfolding valueRead pairsOf pairNumbers
+returns-2 c = let e = c .enum-told .given .1 in (rw e (omega arith), rw e)
+
 returns-3 : tie.Need-returns-3
-returns-3 c =
-    let args = c .before .before .before .before .before .before .before .before .before .before .args in
-    let tombstone = c .before .before .before .tombstone in
-    let uint = c .before .before .before .before .uint in
-    let u32-at = c .u32-at in
-    let pre = c .before .before .before .before .before .before .before .before .before .before .pre in
-    pair-put (args .section .now) (args .o) (args .pos) (tombstone .ensures) (uint .ensures) (search needs) (search needs) (u32-at .ensures) (pre .0 .four) (args .pairs .now) (args .to)
+unfolding valueRead pairsOf pairNumbers
+returns-3 c = let e = c .enum-told2 .given .1 in (rw e (omega arith), rw e)
 
 pub put-value-spec : {M : Type 1} → statement M
 put-value-spec =
     tie.close
     (tie.spec
-    returns
-    add-value
-    uint-requires
-    tombstone-requires
-    returns-2
-    add-u32-at
-    u32-at-requires
-    cast-pairs
-    mul-pairs
-    slice-write-pairs
-    add-pairs
-    mul-pairs-2
-    slice-write-pairs-2
-    add-result
+    enum-known-read
+    put-version-requires
+    enum-told
+    enum-told-2
     same-length
+    returns
+    returns-2
     returns-3)
