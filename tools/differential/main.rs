@@ -22,6 +22,8 @@ mod numbers;
 mod opening_expected;
 #[path = "../common/ours.rs"]
 mod ours;
+#[path = "../common/pairs.rs"]
+mod pairs;
 #[path = "../common/reading.rs"]
 mod reading;
 #[path = "../common/reads.rs"]

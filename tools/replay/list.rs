@@ -30,6 +30,8 @@ pub enum Kind {
     Size,
     Write,
     Span,
+    Fill,
+    Find,
 }
 
 #[derive(Default)]

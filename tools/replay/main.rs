@@ -12,12 +12,16 @@ mod chosen;
 mod damage;
 #[path = "../common/entries.rs"]
 mod entries;
+#[path = "../common/filling.rs"]
+mod filling;
 #[path = "../common/forge.rs"]
 mod forge;
 #[path = "../common/numbers.rs"]
 mod numbers;
 #[path = "../common/opening.rs"]
 mod opening_expected;
+#[path = "../common/pairs.rs"]
+mod pairs;
 #[path = "../common/reading.rs"]
 mod reading;
 #[path = "../common/reads.rs"]
@@ -29,6 +33,7 @@ mod spanning;
 #[path = "../common/stores.rs"]
 mod stores;
 
+mod block_records;
 mod building;
 mod leaves;
 mod list;
@@ -58,6 +63,8 @@ const PROGRAMS: [(&str, &[(&str, Make)]); 2] = [
             ("forged.bin", lookups::forged),
             ("spans.bin", spans::spans),
             ("forged_spans.bin", spans::forged),
+            ("fills.bin", block_records::fills),
+            ("finds.bin", block_records::finds),
         ],
     ),
     (

@@ -3,6 +3,7 @@
 mod leaves;
 mod lookups;
 mod opens;
+mod records;
 
 use list::Tally;
 
@@ -17,6 +18,8 @@ fn agrees(list: &[u8], row: u64) -> bool {
         7 => lookups::lookup(list, row),
         8 => lookups::value(list, row),
         15 => lookups::span(list, row),
+        16 => records::fill(list, row),
+        17 => records::find(list, row),
         _ => false,
     }
 }
@@ -59,4 +62,6 @@ fn main() {
     report(b"forged.bin");
     report(b"spans.bin");
     report(b"forged_spans.bin");
+    report(b"fills.bin");
+    report(b"finds.bin");
 }

@@ -1,0 +1,2 @@
+mod Eight
+mod Parts
