@@ -1,4 +1,3 @@
 pub mod Same
-pub mod PackedAnswers
 pub mod Records
 pub mod Packed
