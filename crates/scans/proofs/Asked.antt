@@ -1,10 +1,9 @@
 -- The questions of a span, in their order.
 -- Assumes nothing.
-use mathlib.Core.Path.{_≡_, sym, ap, ap₂, _∙_}
+use mathlib.Core.Path.{_≡_, refl, sym, ap, ap₂, _∙_}
 use mathlib.Core.Bool.{true, false}
 use mathlib.Core.List.{List}
 use Prim.Native.Nat.{ℕ, _+_, _*_, _<_, _≤_}
-use native.Mathlib.Nat.{mul-comm}
 use native.Mathlib.Omega.{arith}
 use lib.Dec.{leb}
 use lib.ListN.{length}
@@ -21,6 +20,7 @@ use Rattle.spans.specs.declared.Spanned.{Spanned}
 use Rattle.spans.specs.declared.Spanned.the-variants.{Refused}
 use Rattle.spans.specs.Span.{Pair, scannable, scanAddress, valuesFrom, spanOf, pairsWritten, spannedRead}
 use Rattle.spans.specs.Internal.{Spannable}
+use Rattle.wholekeys.proofs.Whole.{table-address}
 
 -- ---- a record that passes 24 and 27
 
@@ -68,8 +68,7 @@ module _ (s : List ℕ) (o : Opened) (r : isRecord s o ≡ true) (q : scannable 
 -- keys are read from the scan address of the first
 pub read-from : (s : List ℕ) (o : Opened) (first limit : ℕ) → o .encoding .address ≡ 4 → {a : ℕ} → a ≡ leAt s (o .scan + 24 + 4 * first) 4 → {count n : ℕ} → count ≡ n
     → valuesFrom n s o limit a ≡ valuesFrom count s o limit (scanAddress s o first)
-unfolding scanAddress
-read-from s o first limit four e c = ap₂ (λ (n a : ℕ). valuesFrom n s o limit a) (sym c) (rw (four, mul-comm first 4) e)
+read-from s o first limit four e c = ap₂ (λ (n a : ℕ). valuesFrom n s o limit a) (sym c) (e ∙ table-address s o four first refl)
 
 -- and what is answered of one answer is answered of the same
 pub told-of : {x y : Answer (List Pair)} → x ≡ y → (l : List ℕ) {r : Spanned} {m : List ℕ} → (r ≡ spannedRead x) × (m ≡ pairsWritten x l) → (r ≡ spannedRead y) × (m ≡ pairsWritten y l)

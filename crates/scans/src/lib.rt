@@ -57,6 +57,9 @@ fn scan_values(
     if count == 1 {
         return spans::key_value(section, o, address, limit, pairs);
     }
+    if wholekeys::keys_whole(section, o, first, count) {
+        return Spanned::Pairs(wholepairs::put_whole(section, o, first, count, limit, pairs));
+    }
     spans::key_values(section, o, count, address, limit, pairs)
 }
 

@@ -12,8 +12,8 @@ use lib.Seq.{sets, length-sets}
 use borrow.Author.Tests.{le-leb, lt-leb, leb-true, leb-false}
 use Rattle.num.specs.Answer.{Answer, given, refused}
 use Rattle.num.specs.Choice.{if_then_else_, both}
-use Rattle.num.specs.Number.{Bytes, leAt}
-use Rattle.num.proofs.Choice.{false-true, both-true, both-no, if-case, if-true, if-false}
+use Rattle.num.specs.Number.{Bytes}
+use Rattle.num.proofs.Choice.{false-true, both-true, if-case, if-true, if-false}
 use Rattle.num.proofs.Lists.{sets-append}
 use Rattle.sstable.specs.declared.Kind.{Kind}
 use Rattle.sstable.specs.declared.Kind.the-variants.{Put, Tombstone}

@@ -81,25 +81,7 @@ module _ (s : List ℕ) (o : Opened) (pos limit : ℕ) where
   unfolding valueFrom
   value-none n h = let e : n ≡ 0 = omega arith in ap (λ (k : ℕ). valueFrom k s o pos limit) e
 
-  -- ---- where nothing is refused, the reads are inside
-
-  pub given-read : (n : ℕ) → 0 < n → isGiven (valueFrom n s o pos limit) ≡ true → (pos + o .encoding .seq ≤ length s) × (storedSeq s o pos < 2 ^ 64)
-  unfolding readable isGiven
-  given-read n h e = go readOf refl
-    where
-      go : (b : Bool) → readOf ≡ b → (pos + o .encoding .seq ≤ length s) × (storedSeq s o pos < 2 ^ 64)
-      go true p = let t = both-true _ _ p in (leb-true _ _ (t .0), ltb-true _ _ (t .1))
-      go false p = false-true (sym (ap isGiven (some n h ∙ one (n - 1) false _ p refl)) ∙ e)
-
   -- the version within the limit is given where all that a span reads of it is inside
-  pub met-read : isGiven met ≡ leb (pos + valueEnd (o .encoding)) (length s)
-  unfolding readable isGiven if_then_else_
-  met-read = go (leb (pos + valueEnd (o .encoding)) (length s))
-    where
-      go : (b : Bool) → isGiven (if b then given (valueAt s o pos) else refused 25) ≡ b
-      go true = refl
-      go false = refl
-
   pub met-inside : pos + valueEnd (o .encoding) ≤ length s → met ≡ given (valueAt s o pos)
   unfolding readable
   met-inside l = if-true _ _ _ (le-leb (pos + valueEnd (o .encoding)) (length s) l)
@@ -107,21 +89,6 @@ module _ (s : List ℕ) (o : Opened) (pos limit : ℕ) where
   pub met-outside : length s < pos + valueEnd (o .encoding) → met ≡ refused 25
   unfolding readable
   met-outside l = if-false _ _ _ (lt-leb (pos + valueEnd (o .encoding)) (length s) l)
-
-  -- a version within the limit that is given is the answer
-  pub newest-met : (n : ℕ) → 0 < n → isGiven (valueFrom n s o pos limit) ≡ true → storedSeq s o pos ≤ limit
-      → (pos + valueEnd (o .encoding) ≤ length s) × (pairsOf (valueFrom n s o pos limit) ≡ valueAt s o pos)
-  unfolding readable pairsOf
-  newest-met n h e w =
-      let g = given-read n h e in
-      let m = value-within n h (g .0) (g .1) w in
-      let t = sym met-read ∙ sym (ap isGiven m) ∙ e in
-      (leb-true _ _ t, ap pairsOf (m ∙ if-true _ _ _ t))
-
-  -- and one above it is passed
-  pub newest-passed : (n : ℕ) → 0 < n → isGiven (valueFrom n s o pos limit) ≡ true → limit < storedSeq s o pos
-      → valueFrom n s o pos limit ≡ valueFrom (n - 1) s o (pos + versionLenOf (o .encoding)) limit
-  newest-passed n h e w = let g = given-read n h e in value-above n h (g .0) (g .1) w
 
 -- ---- the value at a place, as it is stored
 

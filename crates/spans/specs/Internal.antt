@@ -2,13 +2,12 @@
 use mathlib.Core.Path.{_≡_}
 use mathlib.Core.List.{List, []}
 use mathlib.Core.Bool.{Bool, true, false}
-use Prim.Native.Nat.{ℕ, suc, _+_, _*_, _^_, _<_, _≤_}
+use Prim.Native.Nat.{ℕ, _+_, _^_, _<_, _≤_}
 use lib.ListN.{length}
 use Rattle.num.specs.Answer.{Answer, given, refused}
-use Rattle.encoding.specs.Encoding.{Widths, versionLenOf}
+use Rattle.encoding.specs.Encoding.{Widths}
 use Rattle.header.specs.declared.Opened.{Opened}
-use Rattle.arena.specs.declared.KeyHeader.{KeyHeader}
-use Rattle.spans.specs.Span.{Pair, valueEnd, valueAt, versionsStart}
+use Rattle.spans.specs.Span.{Pair, valueEnd, valueAt}
 use Rattle.spans.specs.declared.VersionRead.{VersionRead}
 use Rattle.spans.specs.declared.VersionRead.the-variants.{At, Absent, Refused}
 
@@ -17,10 +16,6 @@ pub record Spannable (o : Opened) : Type 0 where
   pub widths : Widths (o .encoding)
   pub four : o .encoding .address ≡ 4
   pub arena : o .arena < 2 ^ 36
-
--- the address behind a key record
-unfoldable pub recordEnd : Opened → ℕ → KeyHeader → ℕ
-recordEnd o address h = address + versionsStart o h + h .versions * versionLenOf (o .encoding)
 
 -- the answer of what was read of a key
 unfoldable pub valueRead : List ℕ → Opened → VersionRead → Answer (List Pair)

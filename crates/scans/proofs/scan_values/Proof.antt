@@ -1,4 +1,6 @@
 use mathlib.Core.Path.{refl}
+use Rattle.spans.proofs.Keys.{given-told}
+use Rattle.wholepairs.proofs.Keys.{whole-given}
 use Rattle.scans.proofs.Asked.{read-from, told-of}
 use borrow.Author.Needs.{needs}
 use Rattle.scans.proofs.scan_values.Statement.{statement}
@@ -31,17 +33,37 @@ returns c =
     let a = s .args in
     told-of (read-from (a .section .now) (a .o) (a .first) (a .limit) (s .pre .0 .four) (c .before .before .before .before .before .u32-at .ensures) (search needs)) (a .pairs .now) (c .before .before .key-value .ensures)
 
-key-values-requires : tie.Need-key-values-requires
-key-values-requires c κs = search needs
+keys-whole-requires : tie.Need-keys-whole-requires
+keys-whole-requires c κs = search needs
+
+put-whole-requires : tie.Need-put-whole-requires
+put-whole-requires c κs =
+    let pre = c .before .before .before .before .before .before .before .before .pre in
+    (pre .0, (pre .1 .0, (c .before .before .keys-whole .ensures (c .before .if2 .taken), pre .1 .1)))
 
 same-length-2 : tie.Need-same-length-2
 same-length-2 c = search needs
 
 returns-2 : tie.Need-returns-2
 returns-2 c =
-    let s = c .before .before .before .before .before .before .before .before .before in
+    let s = c .before .before .before .before .before .before .before .before .before .before .before in
     let a = s .args in
-    told-of (read-from (a .section .now) (a .o) (a .first) (a .limit) (s .pre .0 .four) (c .before .before .before .before .before .u32-at .ensures) refl) (a .pairs .now) (c .before .before .key-values .ensures)
+    let whole = c .before .before .before .before .before .keys-whole .ensures (c .before .before .before .before .if2 .taken) in
+    let known = c .before .before .before .before .before .before .before .before .before .before .shared-slice-known in
+    let put = c .before .before .put-whole .ensures in
+    given-told _ (a .pairs .now) (whole-given (a .section .now) (a .o) (a .first) (a .count) whole (λ n. known .given n .fits) (s .pre .0 .four) (a .limit)) (put .0) (put .1)
+
+key-values-requires : tie.Need-key-values-requires
+key-values-requires c κs = search needs
+
+same-length-3 : tie.Need-same-length-3
+same-length-3 c = search needs
+
+returns-3 : tie.Need-returns-3
+returns-3 c =
+    let s = c .before .before .before .before .before .before .before .before .before .before .before in
+    let a = s .args in
+    told-of (read-from (a .section .now) (a .o) (a .first) (a .limit) (s .pre .0 .four) (c .before .before .before .before .before .before .before .u32-at .ensures) refl) (a .pairs .now) (c .before .before .key-values .ensures)
 
 pub scan-values-spec : {M : Type 1} → statement M
 scan-values-spec =
@@ -55,6 +77,10 @@ scan-values-spec =
     key-value-requires
     same-length
     returns
-    key-values-requires
+    keys-whole-requires
+    put-whole-requires
     same-length-2
-    returns-2)
+    returns-2
+    key-values-requires
+    same-length-3
+    returns-3)

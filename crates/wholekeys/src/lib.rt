@@ -1,0 +1,58 @@
+// Judges whether the key records of a span are whole, as in an accepted section: then nothing of them is refused, and each key stands at its scan
+// address.
+ghost use mathlib.Core.Path.{_≡_};
+ghost use mathlib.Core.Bool.{true};
+ghost use Prim.Native.Nat.{_+_, _*_, _^_, _<_, _≤_};
+ghost use lib.ListN.{length};
+ghost use Rattle.spans.specs.Internal.{Spannable};
+ghost use Rattle.wholekeys.specs.Internal.{WholeKeys};
+use encoding::Encoding;
+use header::Opened;
+
+// Is every sequence sum below 2^64, whatever is stored?
+fn sums_fit(o: Opened) -> bool
+    ensures { λ r. ⌜ (r ≡ true → (o .encoding .seq ≤ 4) × (o .«min_seq» < 2 ^ 63)) ⌝ }
+{
+    (o.encoding.seq <= 4) & (o.min_seq < 0x8000_0000_0000_0000)
+}
+
+// Are the records of some keys whole, one behind the other, as their scan addresses say? Sums that might pass 2^64 are left to the general path.
+pub fn keys_whole(section: &[u8], o: Opened, first: u64, count: u64) -> bool
+    requires { ⌜ Spannable o ⌝ }
+    requires { ⌜ o .scan + 24 + 4 * (first + count) + 4 ≤ length (now section) ⌝ }
+    ensures { λ r. ⌜ (r ≡ true → WholeKeys (now (section .entry)) o first count) ⌝ }
+{
+    let e = o.encoding;
+    if !sums_fit(o) {
+        return false;
+    }
+    let key_mask = words::mask(e.key);
+    let count_mask = words::mask(e.count);
+    let header = e.key_header();
+    let size = e.version();
+    let lengths = e.address + e.key;
+    let read = o.arena + lengths + e.key + 8;
+    if section.len() < read {
+        return false;
+    }
+    let most = section.len() - read;
+    let mut table = o.scan + Encoding::SCAN_HEADER + 4 * first as usize;
+    let mut next = num::u32_at(section, table) as usize;
+    let mut sound = true;
+    let mut left = count;
+    while 0 < left {
+        let at = num::u32_at(section, table) as usize;
+        if most < at {
+            return false;
+        }
+        let pos = o.arena + at + lengths;
+        let suffix_len = words::masked(section, pos, e.key, key_mask) as usize;
+        let versions = words::masked(section, pos + e.key, e.count, count_mask) as usize;
+        // Gathered, not asked: behind a branch on `at == next` a key would wait for the key before it.
+        sound = sound & (at == next);
+        next = at + (header + suffix_len) + versions * size;
+        table += 4;
+        left -= 1;
+    }
+    sound & (next <= most)
+}
