@@ -2,13 +2,12 @@
 use crate::measure::{Row, Work, prepared, repeated, row, thousands};
 use crate::ours::{self, Offered, Record, Scratch};
 use crate::rng::Rng;
+use crate::stores::{KEY, VALUE, sorted_keys};
 use oracle_stable::point::Builder;
 use std::hint::black_box;
 use std::rc::Rc;
 
 const SIZES: [usize; 3] = [1_000, 10_000, 100_000];
-const KEY: usize = 20;
-const VALUE: usize = 32;
 /// Values of other lengths, and how many keys have them.
 const VALUES: [usize; 2] = [8, 1024];
 const VALUED: usize = 10_000;
@@ -21,8 +20,7 @@ struct Entry {
 }
 
 fn entries(rng: &mut Rng, count: usize, value: usize) -> Rc<Vec<Entry>> {
-    let mut keys: Vec<Vec<u8>> = (0..count).map(|_| rng.bytes(KEY)).collect();
-    keys.sort();
+    let keys = sorted_keys(rng, count, KEY);
     let place = |at| (at * (21 + KEY + value) + 21 + KEY) as u64;
     let entry = |(at, key)| Entry { key, value: rng.bytes(value), sequence: rng.next() & 0xffff, offset: place(at) };
     Rc::new(keys.into_iter().enumerate().map(entry).collect())

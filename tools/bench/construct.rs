@@ -3,11 +3,11 @@ use crate::chosen::{self, Keys, area, held};
 use crate::measure::{Row, repeated, row, thousands};
 use crate::ours;
 use crate::rng::Rng;
+use crate::stores::KEY;
 use oracle_stable::point::construct;
 use std::hint::black_box;
 
 const SIZES: [usize; 4] = [1_000, 10_000, 100_000, 1_000_000];
-const KEY: usize = 20;
 
 /// What of an answer both sides must give alike.
 fn weighed(seed: u64, pilot: u32, slot: u64) -> u64 {

@@ -3,30 +3,22 @@ use crate::blocks::Entry;
 use crate::measure::{Row, repeated, row, thousands};
 use crate::ours::{self, Record};
 use crate::rng::Rng;
-use crate::stores::Store;
+use crate::stores::{KEY, LONG_VALUE, PREFIX, SIZES, Store, VALUE, sorted_keys};
 use oracle::compact::Index;
 use std::hint::black_box;
 use std::rc::Rc;
 
-const SIZES: [usize; 2] = [1_000, 100_000];
-const KEY: usize = 20;
-const VALUE: usize = 32;
-const PREFIX: usize = 4;
 /// Sequences of the newest version are below it, half of them within `MIDDLE`.
 const SEQUENCES: u64 = 0x10000;
 const MIDDLE: u64 = 0x7fff;
 /// No sequence is above it, and the Rust takes its general path.
 const GENERAL: u64 = u64::MAX - 1;
-/// A value so long that the lengths of values take four bytes, widths for which the Rust has no loop of its own.
-const LONG_VALUE: usize = 33_000;
 
 /// So many versions of each key, equally far apart.
 fn entries(rng: &mut Rng, keys: usize, versions: u64) -> Vec<Entry> {
-    let mut keys: Vec<Vec<u8>> = (0..keys).map(|_| rng.bytes(KEY)).collect();
-    keys.sort();
     let step = SEQUENCES / versions;
     let mut all = Vec::new();
-    for key in keys {
+    for key in sorted_keys(rng, keys, KEY) {
         let least = rng.next() % step;
         let sequences = (0..versions).rev().map(|version| least + version * step);
         let entry = |sequence| Entry { kind: 1, key: key.clone(), value: rng.bytes(VALUE), sequence };

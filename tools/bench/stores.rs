@@ -12,19 +12,26 @@ use std::rc::Rc;
 use std::sync::Arc;
 
 /// A store whose parts stay in the nearest caches, and one whose parts do not.
-const SIZES: [usize; 2] = [1_000, 100_000];
-const KEY: usize = 20;
+pub const SIZES: [usize; 2] = [1_000, 100_000];
+pub const KEY: usize = 20;
 const WHOLE_KEY: usize = 16;
-const VALUE: usize = 32;
-const PREFIX: usize = 4;
+pub const VALUE: usize = 32;
+pub const PREFIX: usize = 4;
 const MANY: usize = 65_536;
-/// A value so long that the lengths of values take four bytes.
-const LONG_VALUE: usize = 33_000;
+/// A value so long that the lengths of values take four bytes, widths for which the Rust's spans have no loop of their own.
+pub const LONG_VALUE: usize = 33_000;
 /// The greatest ratio that a lookup is to reach.
 const LOOKUP: Option<f64> = Some(1.05);
 const PER_BLOCK: usize = 50;
 /// No sequence is above it.
 const LIMIT: u64 = 0xffff;
+
+/// Keys of one length, in order.
+pub fn sorted_keys(rng: &mut Rng, count: usize, length: usize) -> Vec<Vec<u8>> {
+    let mut keys: Vec<Vec<u8>> = (0..count).map(|_| rng.bytes(length)).collect();
+    keys.sort();
+    keys
+}
 
 pub struct Store {
     entries: Vec<Entry>,
@@ -41,8 +48,7 @@ impl Store {
 
     /// With a scan part, unless the prefix is 0, and with a first value of another length.
     fn with(rng: &mut Rng, count: usize, key: usize, prefix: usize, first: usize) -> Rc<Self> {
-        let mut keys: Vec<Vec<u8>> = (0..count).map(|_| rng.bytes(key)).collect();
-        keys.sort();
+        let keys = sorted_keys(rng, count, key);
         let mut entry = |key| Entry { kind: 1, key, value: rng.bytes(VALUE), sequence: rng.next() & LIMIT };
         let mut entries: Vec<Entry> = keys.into_iter().map(&mut entry).collect();
         entries[0].value.resize(first, 0);

@@ -17,7 +17,7 @@ use Rattle.builder.specs.Record.{builderAfter}
 use Rattle.builder.specs.Add.{versionsWith, areaAfter, countedOf}
 use Rattle.builder.specs.Internal.{Passed}
 use Rattle.builder.proofs.Standing.{Keyed, stood, follows-key}
-use Rattle.adding.proofs.Stores.{behind}
+use Rattle.num.proofs.Stores.{behind}
 
 pub length-head : (key : List ℕ) → length (headBytes key) ≡ headLen + length key
 unfolding headBytes

@@ -9,15 +9,16 @@ use borrow.Author.Tests.{ltb-true, lt-ltb, leb-true, le-leb, lt-leb}
 use lib.Dec.{leb}
 use lib.ListN.{length, take, drop}
 use Rattle.num.specs.Number.{leAt}
-use Rattle.num.proofs.Choice.{both-true, true-both, if-first, if-true, if-false}
+use Rattle.num.proofs.Choice.{if-first, if-true, if-false}
 use Rattle.num.proofs.Steps.{each-yes, yes-each}
 use Rattle.point.specs.Hash.{isDirect, directSlot}
 use Rattle.header.specs.declared.Opened.{Opened}
 use Rattle.header.specs.declared.HeaderRead.{HeaderRead}
 use Rattle.header.specs.declared.HeaderRead.the-variants.{Accepted, Refused}
-use Rattle.header.specs.Header.{fitsPacked, packedRecord}
+use Rattle.header.specs.Header.{packedRecord}
 use Rattle.header.specs.Facts.{Header, fromPlain}
 use Rattle.header.proofs.Bounds.{arena-end}
+use Rattle.header.proofs.Questions.{packed-yes, yes-packed}
 use Rattle.opening.specs.Open.{contentsOf, checkedHeaderOf}
 use Rattle.num.specs.Answer.{refused}
 use Rattle.packing.specs.Packing.{PackedForm, packedAs, pilotPacks, pilotsPack, packedFor, packOf, packFor, openPackedOf}
@@ -52,15 +53,6 @@ pub packed-size : (s : List ℕ) (o : Opened) → Header s o → length (packedB
 unfolding packedLength packedArena
 packed-size s o h = let e = end-is s o in omega (arith, length-packed s o h)
 
--- question 7, both ways
-fits-asked : (o : Opened) → fitsPacked o ≡ true → (o .encoding .checksum ≡ true) × (o .count < 2 ^ 23)
-unfolding fitsPacked
-fits-asked o e = (both-true _ _ e .0, ltb-true _ _ (both-true _ _ e .1))
-
-pub fits-pass : (o : Opened) → o .encoding .checksum ≡ true → o .count < 2 ^ 23 → fitsPacked o ≡ true
-unfolding fitsPacked
-fits-pass o c f = true-both _ _ c (lt-ltb _ _ f)
-
 module _ (s «data» blocks : List ℕ) (scratch room : ℕ) where
   packed-asks : (o p : Opened) (bytes : List ℕ) (r : HeaderRead) → contentsOf s «data» blocks scratch o ≡ r → packedFor s o r ≡ packedAs p bytes
       → (contentsOf s «data» blocks scratch o ≡ Accepted o) × (p ≡ packedRecord o) × (bytes ≡ packedBytes s o)
@@ -80,7 +72,7 @@ module _ (s «data» blocks : List ℕ) (scratch room : ℕ) where
       let w = packed-asks o p bytes (contentsOf s «data» blocks scratch o) refl (e₃ .1) in
       let c = contents-asks s «data» blocks scratch o o (w .0) .0 in
       let k = checked-asks s o h in
-      let f = fits-asked o (e₁ .0) in
+      let f = packed-yes o (e₁ .0) in
       record {
         plain = o;
         admits = record {
@@ -103,7 +95,7 @@ module _ (s «data» blocks : List ℕ) (scratch room : ℕ) where
   unfolding openPackedOf packFor packOf packedFor
   asks-packed o a =
       ap (packFor s «data» blocks scratch room) (asks-checked s o (a .admits .trailer) (a .admits .header))
-      ∙ if-true _ _ _ (fits-pass o (a .checksums) (a .few))
+      ∙ if-true _ _ _ (yes-packed o (a .checksums) (a .few))
       ∙ if-true _ _ _ (pilots-pass s o (a .pilots))
       ∙ if-true _ _ _ (le-leb _ _ (subst⁻¹ (λ (n : ℕ). n ≤ room) (packed-size s o (a .admits .header)) (a .holds)))
       ∙ ap (packedFor s o)

@@ -1,24 +1,25 @@
 -- Where the walk of the arena reads, and how large the numbers are that it finds.
 -- Assumes nothing.
-use mathlib.Core.Path.{_≡_, refl, sym, ap, _∙_, subst⁻¹}
+use mathlib.Core.Path.{_≡_, refl, sym, ap, _∙_}
 use mathlib.Core.Logic.{⊎-elim}
 use mathlib.Core.List.{List, [], _∷_}
 use mathlib.Core.Bool.{Bool, true, false}
-use Prim.Native.Nat.{ℕ, suc, _+_, _*_, _-_, _^_, _<_, _≤_}
-use native.Mathlib.Nat.{mul-le-mul-right, suc-mul}
+use Prim.Native.Nat.{ℕ, _+_, _*_, _-_, _^_, _<_, _≤_}
+use native.Mathlib.Nat.{mul-le-mul-right}
 use native.Mathlib.Omega.{arith}
-use lib.Dec.{eqb, leb}
+use lib.Dec.{leb}
 use lib.ListN.{length}
-use borrow.Author.Tests.{leb-true, leb-false, le-leb, lt-leb, eqb-true, eq-eqb, ne-eqb}
+use borrow.Author.Tests.{leb-true, leb-false, le-leb, lt-leb}
 use Rattle.num.specs.Choice.{if_then_else_, either, oneOf}
 use Rattle.num.specs.Number.{Bytes, leAt, isWidth}
-use Rattle.num.proofs.Choice.{if-case, oneOf-case, same-truth}
+use Rattle.num.proofs.Choice.{if-case, oneOf-case}
 use Rattle.num.proofs.Number.{leAt-lt}
+use Rattle.num.proofs.Parts.{entry-inside}
 use Rattle.point.specs.Hash.{bucketOf, slotOf}
 use Rattle.point.proofs.Slots.{bucket-lt, slot-lt}
 use Rattle.encoding.specs.declared.Encoding.{Encoding}
-use Rattle.encoding.specs.Encoding.{Widths, bucketsOf, arenaStartOf, versionLenOf, tombstoneOf}
-use Rattle.encoding.proofs.Widths.{widths-le, tombstone-double}
+use Rattle.encoding.specs.Encoding.{Widths, bucketsOf, arenaStartOf, versionLenOf}
+use Rattle.encoding.proofs.Widths.{widths-le}
 use Rattle.header.specs.declared.Opened.{Opened}
 use Rattle.arena.specs.declared.Cursor.{Cursor}
 use Rattle.arena.specs.Key.{keyHeaderAt, pilotPlace, slotPlace}
@@ -60,10 +61,6 @@ key-header-narrow s e pos b w =
       versions = four-bytes s _ _ b (w .count);
     }
 
--- one more of n pieces of a size ends with the last of them or before
-pub piece-inside : (i n size : ℕ) → i < n → i * size + size ≤ n * size
-piece-inside i n size h = let l = mul-le-mul-right {m = suc i} {n = n} size h in let e = suc-mul i size in omega arith
-
 module _ (s : List ℕ) (o : Opened) (r : Readable s o) where
   -- there is a bucket
   pub some-bucket : 0 < o .buckets
@@ -89,14 +86,14 @@ module _ (s : List ℕ) (o : Opened) (r : Readable s o) where
   pub slot-inside : (h : ℕ) → slotPlace s o h + (o .encoding .address + 2) ≤ o .arena
   unfolding slotPlace
   slot-inside h =
-      let p = piece-inside _ (o .count) (o .encoding .address + 2) (named-slot h) in
+      let p = entry-inside _ (o .count) (o .encoding .address + 2) (named-slot h) in
       let e = slots-end in
       omega arith
 
   -- the scan address of a key lies in the section
   pub scan-address-inside : (k : ℕ) → (o .scan ≡ 0 → ⊥) → k < o .count → o .scan + 24 + k * o .encoding .address + o .encoding .address ≤ length s
   scan-address-inside k n h =
-      let p = piece-inside k (o .count) (o .encoding .address) h in
+      let p = entry-inside k (o .count) (o .encoding .address) h in
       ⊎-elim (λ z. absurd (n z)) (λ l. omega arith) (r .scan-inside)
 
   -- the scan header too

@@ -19,14 +19,13 @@ use Rattle.construction.specs.Construct.{Constructed, constructOf}
 use Rattle.builder.specs.declared.Builder.{Builder}
 use Rattle.builder.specs.Offer.{Offer, headBytes, versionBytes, entryLen}
 use Rattle.builder.specs.Record.{builderAfter}
-use Rattle.builder.specs.Add.{versionsWith, areaAfter, countedOf, BuilderState, addedRead, addedNumber}
+use Rattle.builder.specs.Add.{versionsWith, areaAfter, countedOf, BuilderState}
 use Rattle.builder.specs.Internal.{Passed}
-use Rattle.builder.proofs.Asked as asked
+use Rattle.builder.proofs.Asked.{accepted}
 use Rattle.adding.proofs.Entry.{length-head, old-keyed}
 use Rattle.measuring.specs.Measured.{AreaMeasured, ReadBackMeasured}
 use Rattle.measuring.proofs.Measured.{read-back-measured}
 use Rattle.writer.specs.Write.{sectionFor}
-use Rattle.building.proofs.Taking as taking
 use Rattle.numbers.specs.BuilderNumbers.{builderNumbers, builderIn}
 use Rattle.calls.specs.Calls.{place}
 use Rattle.buildcalls.specs.BuildCalls.{offered, adds, AddCall, writes, WriteCall, BehindKept}
@@ -88,12 +87,12 @@ unfolding builderNumbers
 add-behind c s q z =
     let l = c .lent in
     let b = builderIn (l .numbers) in
-    let p = asked.taken (l .area) b (offered l) (sym z ∙ c .returns ∙ ap (λ (a : Answer BuilderState). addedNumber (addedRead a)) (same-offer l)) in
-    let same = taking.passed (l .area) b (offered l) s (sym (same-offer l) ∙ q) .1 in
+    let taken = accepted (l .area) b (offered l) s (sym (same-offer l) ∙ q) in
+    let p = taken .0 .passed in
     let left = added-left c s q in
     let used : place (c .numbers) 3 ≡ s .builder .used = ap (λ (n : List ℕ). place n 3) (left .0) in
     let behind =
-    subst⁻¹ (λ (t : BuilderState). (t .builder .used ≤ length (l .area)) × (drop (t .builder .used) (t .area) ≡ drop (t .builder .used) (l .area))) same
+    subst⁻¹ (λ (t : BuilderState). (t .builder .used ≤ length (l .area)) × (drop (t .builder .used) (t .area) ≡ drop (t .builder .used) (l .area))) (taken .1)
     (area-inside (l .area) b (offered l) p, area-behind (l .area) b (offered l) p) in
     let inside = behind .0 in
     (omega arith, ap₂ (λ (n : ℕ) (x : List ℕ). drop n x) used (left .1) ∙ behind .1 ∙ ap (λ (n : ℕ). drop n (l .area)) (sym used))

@@ -69,6 +69,11 @@ pub key-limit : (keyLen valueLen : ℕ) → withinLimits keyLen valueLen ≡ tru
 unfolding limit-defs
 key-limit keyLen valueLen e = leb-true _ _ (both-true _ _ e .0)
 
+-- and a value
+pub value-limit : (keyLen valueLen : ℕ) → withinLimits keyLen valueLen ≡ true → valueLen ≤ 16777216
+unfolding limit-defs
+value-limit keyLen valueLen e = leb-true _ _ (both-true _ _ e .1)
+
 -- ---- what the number says of the answer
 
 -- a question that is passed
@@ -78,9 +83,18 @@ unfolding if_then_else_ addedNumber addedRead
 passed true k next n e = (refl, refl, e)
 passed false k next n e = absurd (n e)
 
+-- what all questions leave of an offer that is taken
+pub record Accepted (area : List ℕ) (b : Builder) (e : Offer) : Type 0 where
+  pub passed : Passed area b e
+  pub offset : b .totals .«last_value_offset» ≤ e .offset
+  pub few : b .totals .keys + (if e .new-key then 1 else 0) ≤ maxKeys
+  pub bound : b .used + entryLen e ≤ 2 ^ 30
+
+abbrev stateAfter : List ℕ → Builder → Offer → BuilderState
+stateAfter area b e = record { area = areaAfter area b e; builder = builderAfter area b (countedOf area b e) }
+
 module _ (area : List ℕ) (b : Builder) (e : Offer) where
-  given-exactly : 0 ≡ addedNumber (addedRead (addOf area b e))
-      → Passed area b e × (addOf area b e ≡ given (record { area = areaAfter area b e; builder = builderAfter area b (countedOf area b e) }))
+  given-exactly : 0 ≡ addedNumber (addedRead (addOf area b e)) → Accepted area b e × (addOf area b e ≡ given (stateAfter area b e))
   unfolding addOf
   given-exactly z =
       let q₀ = passed _ 30 _ (λ x. omega arith) z in
@@ -88,14 +102,27 @@ module _ (area : List ℕ) (b : Builder) (e : Offer) where
       let q₂ = passed _ 32 _ (λ x. omega arith) (q₁ .2) in
       let q₃ = passed _ 33 _ (λ x. omega arith) (q₂ .2) in
       let q₄ = passed _ 37 _ (λ x. omega arith) (q₃ .2) in
-      let q₅ = passed _ 34 _ (λ x. omega arith) (q₄ .2) in (
-        record { limits = q₀ .0; follows = q₁ .0; stands = q₄ .0; room = leb-true _ _ (both-true _ _ (q₅ .0) .0) },
+      let q₅ = passed _ 34 _ (λ x. omega arith) (q₄ .2) in
+      let r = both-true _ _ (q₅ .0) in (
+        record {
+          passed = record { limits = q₀ .0; follows = q₁ .0; stands = q₄ .0; room = leb-true _ _ (r .0) };
+          offset = leb-true _ _ (q₂ .0);
+          few = leb-true _ _ (q₃ .0);
+          bound = leb-true _ _ (r .1);
+        },
         q₀ .1 ∙ q₁ .1 ∙ q₂ .1 ∙ q₃ .1 ∙ q₄ .1 ∙ q₅ .1,
       )
 
+  -- the answer of an offer that is taken
+  pub accepted : (s : BuilderState) → addOf area b e ≡ given s → Accepted area b e × (s ≡ stateAfter area b e)
+  accepted s q =
+      let g = given-exactly (ask-none s ∙ sym (ap (λ (y : Answer BuilderState). addedNumber (addedRead y)) q)) in
+      let same = g .1 in
+      (g .0, cc)
+
   -- 0: the offer is taken
   pub taken : 0 ≡ addedNumber (addedRead (addOf area b e)) → Passed area b e
-  taken z = given-exactly z .0
+  taken z = given-exactly z .0 .passed
 
   pub taken-answer : 0 ≡ addedNumber (addedRead (addOf area b e)) → (r : Builder) (x : List ℕ) → r ≡ builderAfter area b (countedOf area b e) → x ≡ areaAfter area b e
       → (added.Taken r ≡ addedRead (addOf area b e)) × (x ≡ addedArea (addOf area b e) area)

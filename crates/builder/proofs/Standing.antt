@@ -1,6 +1,6 @@
 -- What question 37 says of a record, in plain terms.
 -- Assumes nothing.
-use mathlib.Core.Path.{_≡_, refl, sym, ap, _∙_}
+use mathlib.Core.Path.{_≡_, refl, ap, _∙_}
 use mathlib.Core.Bool.{Bool, true, false}
 use mathlib.Core.List.{List}
 use Prim.Native.Nat.{ℕ, zero, suc, _+_, _-_, _%_, _^_, _≤_, _<_}
@@ -16,15 +16,6 @@ use Rattle.builder.specs.declared.Builder.{Builder}
 use Rattle.area.specs.Area.{headLen, areaKeyLen, areaVersions, areaKey}
 use Rattle.builder.specs.Record.{anchorNext, sharedWith, totalsSmall, keyLies, standing, sizeable}
 use Rattle.builder.specs.Internal.{Countable}
-
--- chains of questions with an alternative, as code with early returns walks them
-pub either-yes : (a b : Bool) → a ≡ true → true ≡ either a b
-unfolding either
-either-yes a b e = sym (ap (λ (t : Bool). either t b) e)
-
-pub either-no : (a b r : Bool) → a ≡ false → r ≡ b → r ≡ either a b
-unfolding either
-either-no a b r e p = p ∙ sym (ap (λ (t : Bool). either t b) e)
 
 -- the totals are small
 pub record Small (b : Builder) : Type 0 where

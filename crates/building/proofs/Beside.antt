@@ -6,6 +6,7 @@ use Prim.Native.Nat.{ℕ, suc, _+_, _*_, _<_, _≤_}
 use native.Mathlib.Omega.{arith}
 use lib.ListN.{length, getD, take, drop, length-map}
 use Rattle.num.proofs.Choice.{if-case}
+use Rattle.num.proofs.Lists.{map-at}
 use Rattle.num.proofs.Steps.{steps-le}
 use Rattle.crc32.specs.V42.{crcOf}
 use Rattle.block.specs.Walk.{Entry}
@@ -19,7 +20,7 @@ use Rattle.written.proofs.Entries.{entries-length, entry-found}
 use Rattle.building.specs.Taken.{storedOf, newGroup, moreGroup, lastGroup, groupsBefore, groupsWith, groupsAfter, groupsOf, versionsOf}
 use Rattle.building.specs.InOrder.{noOffer, offerAt, InOrder, entryAdded, HoldsJust, ScratchHolds}
 use Rattle.building.specs.Internal.{Sound, StartsNew}
-use Rattle.building.proofs.Lists.{map-more, map-at, grown, last-split}
+use Rattle.building.proofs.Lists.{map-more, grown, last-split}
 use Rattle.building.proofs.Grows.{versions-new, versions-more}
 use Rattle.building.proofs.Runs.{groups-more}
 use Rattle.building.proofs.Measures.{each-of}

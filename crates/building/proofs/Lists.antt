@@ -18,11 +18,6 @@ module _ {A B : Type 0} (f : A → B) where
   map-more [] x = refl
   map-more (y ∷ l) x = ap (λ (m : List B). f y ∷ m) (map-more l x)
 
-  pub map-at : (l : List A) (i : ℕ) (d : A) (c : B) → i < length l → getD (map f l) i c ≡ f (getD l i d)
-  map-at [] i d c h = absurd (not-suc-le-zero h)
-  map-at (x ∷ l) zero d c h = refl
-  map-at (x ∷ l) (suc i) d c h = map-at l i d c (omega arith)
-
 module _ {A : Type 0} where
   pub length-more : (l : List A) (x : A) → length (l ++ (x ∷ [])) ≡ length l + 1
   length-more l x = length-append l (x ∷ [])

@@ -17,6 +17,7 @@ use Rattle.builder.specs.Offer.{Offer}
 use Rattle.written.specs.Joined.{joined}
 use Rattle.written.specs.Arena.{StoredVersion, KeyGroup, noStored, noGroup, groupKey, groupVersions, groupVersion}
 use Rattle.written.specs.Opens.{GroupsInOrder, groupEntry, groupEntries, entriesOfGroups}
+use Rattle.written.proofs.Stands.{joined-same}
 use Rattle.building.specs.Taken.{storedOf, newGroup, moreGroup, lastGroup, groupsBefore, groupsWith, groupsAfter, groupsOf}
 use Rattle.building.specs.InOrder.{noOffer, offerAt, InOrder, entryAdded}
 use Rattle.building.specs.Internal.{Sound, StartsNew}
@@ -74,11 +75,6 @@ unfolding offerAt
 behind-each taken o i h = record { rising = o .rising i h; same-key = o .same-key i h; falling = o .falling i h }
 
 -- ---- the records of groups
-
-joined-same : {A : Type 0} (p q : ℕ → List A) (n : ℕ) → ((i : ℕ) → i < n → p i ≡ q i) → joined p n ≡ joined q n
-unfolding joined
-joined-same p q zero h = refl
-joined-same p q (suc n) h = ap₂ _++_ (joined-same p q n (λ i l. h i (omega arith))) (h n (omega arith))
 
 module _ {A B : Type 0} (f : A → B) where
   joined-more : (d : A) (l : List A) (x : A) → joined (λ j. f (getD l j d) ∷ []) (length l) ≡ map f l

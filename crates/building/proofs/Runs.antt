@@ -12,13 +12,14 @@ use Rattle.builder.specs.declared.Builder.{Builder}
 use Rattle.builder.specs.Offer.{Offer}
 use Rattle.builder.specs.Add.{BuilderState, addOf}
 use Rattle.builder.proofs.Standing.{follows-key}
+use Rattle.builder.proofs.Asked.{accepted}
 use Rattle.written.specs.Arena.{KeyGroup}
 use Rattle.building.specs.Run.{Lending, Run, emptyRun, runFor, runStep, runFrom, runOf}
 use Rattle.building.specs.Taken.{groupsWith, groupsAfter, groupsOf, areaOf, groupTotals, builderOf, taken-defs}
 use Rattle.building.specs.Internal.{Rising, Sound, StartsNew, Kept}
 use Rattle.building.proofs.Counted.{builder-none}
 use Rattle.building.proofs.Standing.{stands-passes}
-use Rattle.building.proofs.Taking.{passed, steps, area-begins, never-37}
+use Rattle.building.proofs.Taking.{steps, area-begins, never-37}
 
 -- ---- the groups of one offer more
 
@@ -61,7 +62,7 @@ module _ (r : Run) (k : Kept r) (l : Lending) where
   first-new : (s : BuilderState) → addOf (r .used ++ l .rest) (r .builder) (l .offer) ≡ given s → length (r .taken) ≡ 0 → l .offer .new-key ≡ true
   unfolding builderOf groupTotals
   first-new s q n =
-      let p = passed _ _ (l .offer) s (sym asked-of ∙ q) .0 in
+      let p = accepted _ _ (l .offer) s (sym asked-of ∙ q) .0 .passed in
       let z = no-groups (r .taken) n in
       go (l .offer .new-key) refl (λ e. let f = follows-key (l .offer .new-key) (length (groupsOf (r .taken))) (p .follows) e in omega arith)
     where

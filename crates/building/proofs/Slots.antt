@@ -8,6 +8,7 @@ use native.Mathlib.Omega.{arith}
 use lib.ListN.{length, getD, length-map}
 use Rattle.num.specs.Answer.{given}
 use Rattle.num.proofs.Choice.{false-true}
+use Rattle.num.proofs.Lists.{map-at}
 use Rattle.num.specs.Wrapping.{mulMod}
 use Rattle.point.specs.Hash.{hashStep, hashOf, bucketOf, isDirect, directSlot, slotOf}
 use Rattle.point.proofs.Hashing.{mix-lt}
@@ -20,7 +21,6 @@ use Rattle.construction.proofs.Promises.{placement-sound, seed-decided}
 use Rattle.written.specs.Arena.{KeyGroup, noGroup, groupKey}
 use Rattle.written.specs.Section.{groupHash}
 use Rattle.written.specs.Opens.{groupSlot, SlotsOwned, Packable}
-use Rattle.building.proofs.Lists.{map-at}
 
 -- ---- what a sound pilot says
 

@@ -5,14 +5,12 @@ use mathlib.Core.List.{List, [], _∷_, _++_, append-nil}
 use mathlib.Core.Bool.{Bool, true, false}
 use Prim.Native.Nat.{ℕ, _+_, _-_, _^_, _<_, _≤_}
 use native.Mathlib.Omega.{arith}
-use lib.Dec.{ltb}
 use lib.ListN.{length, getD, take, List·getD-append}
 use lib.Seq.{sets, getD-append-seam}
-use borrow.Author.Tests.{leb-true}
-use Rattle.num.specs.Choice.{if_then_else_, either}
+use Rattle.num.specs.Choice.{if_then_else_}
 use Rattle.num.specs.Answer.{Answer, given, refused}
 use Rattle.num.specs.Number.{leBytes}
-use Rattle.num.proofs.Choice.{if-first, if-true, both-true}
+use Rattle.num.proofs.Choice.{if-true}
 use Rattle.sstable.specs.Limits.{limit-defs}
 use Rattle.area.specs.Area.{areaVersions}
 use Rattle.builder.specs.declared.Builder.{Builder}
@@ -20,6 +18,7 @@ use Rattle.builder.specs.Offer.{Offer, headBytes, versionBytes, entryLen}
 use Rattle.builder.specs.Record.{builderAfter, standing}
 use Rattle.builder.specs.Add.{maxKeys, versionsWith, areaAfter, countedOf, BuilderState, addOf}
 use Rattle.builder.proofs.Standing.{follows-key}
+use Rattle.builder.proofs.Asked.{Accepted, key-limit, value-limit, accepted}
 use Rattle.written.specs.Arena.{StoredVersion, KeyGroup, noStored, noGroup}
 use Rattle.written.specs.Internal.{Stands}
 use Rattle.written.proofs.Section.{crc-lt}
@@ -31,46 +30,6 @@ use Rattle.building.proofs.Counted.{AnchorStands, builder-new, builder-
 use Rattle.building.proofs.AreaRead.{count-read, group-stands}
 use Rattle.building.proofs.ReadsBack.{append-rising, anchor-stands, more-length}
 use Rattle.building.proofs.AreaStep.{area-new, area-more-version}
-
--- ---- the questions
-
--- what they leave of an offer that is taken
-pub record Passed (area : List ℕ) (b : Builder) (e : Offer) : Type 0 where
-  pub key : length (e .key) ≤ 1048576
-  pub value : length (e .value) ≤ 16777216
-  pub follows : either (e .new-key) (ltb 0 (b .totals .keys)) ≡ true
-  pub offset : b .totals .«last_value_offset» ≤ e .offset
-  pub few : b .totals .keys + (if e .new-key then 1 else 0) ≤ maxKeys
-  pub room : b .used + entryLen e ≤ length area
-  pub bound : b .used + entryLen e ≤ 2 ^ 30
-
-not-refused : (n : ℕ) (s : BuilderState) → refused n ≡ given s → ⊥
-not-refused n s e = let z : _≡_ {A = ℕ} 0 1 = cc in omega arith
-
-pub passed : (area : List ℕ) (b : Builder) (e : Offer) (s : BuilderState) → addOf area b e ≡ given s
-    → Passed area b e × (s ≡ record { area = areaAfter area b e; builder = builderAfter area b (countedOf area b e) })
-unfolding addOf limit-defs
-passed area b e s q =
-    let q₀ = if-first _ _ _ _ (not-refused 30 s) q in
-    let q₁ = if-first _ _ _ _ (not-refused 31 s) (q₀ .1) in
-    let q₂ = if-first _ _ _ _ (not-refused 32 s) (q₁ .1) in
-    let q₃ = if-first _ _ _ _ (not-refused 33 s) (q₂ .1) in
-    let q₄ = if-first _ _ _ _ (not-refused 37 s) (q₃ .1) in
-    let q₅ = if-first _ _ _ _ (not-refused 34 s) (q₄ .1) in
-    let l = both-true _ _ (q₀ .0) in
-    let r = both-true _ _ (q₅ .0) in
-    let same = q₅ .1 in (
-      record {
-        key = leb-true _ _ (l .0);
-        value = leb-true _ _ (l .1);
-        follows = q₁ .0;
-        offset = leb-true _ _ (q₂ .0);
-        few = leb-true _ _ (q₃ .0);
-        room = leb-true _ _ (r .0);
-        bound = leb-true _ _ (r .1);
-      },
-      cc,
-    )
 
 -- ---- sound groups with one more version
 
@@ -160,23 +119,24 @@ abbrev stateAfter : List ℕ → Builder → Offer → BuilderState
 stateAfter area b e = record { area = areaAfter area b e; builder = builderAfter area b (countedOf area b e) }
 
 module _ (e : Offer) (seq-fits : e .seq < 2 ^ 64) (offset-fits : e .offset < 2 ^ 64) (rest : List ℕ) where
-  steps-new : (gs : List KeyGroup) → Sound gs → Passed (areaOf gs ++ rest) (builderOf gs) (marked e true)
+  steps-new : (gs : List KeyGroup) → Sound gs → Accepted (areaOf gs ++ rest) (builderOf gs) (marked e true)
       → Steps gs (marked e true) (stateAfter (areaOf gs ++ rest) (builderOf gs) (marked e true))
   unfolding groupsWith if_then_else_ areaAfter countedOf versionsWith countedAs storedOf builderOf groupTotals entryLen
   steps-new gs s p =
       let v = storedOf e in
       let n : length (areaOf (gs ++ (newGroup (e .key) v ∷ []))) ≡ length (areaOf gs) + (25 + (8 + length (e .key))) = new-length gs (e .key) v in
       let b = builder-new (areaOf gs ++ rest) gs (e .key) v (anchor-of gs rest s) in
-      let r = p .room in
+      let l = p .passed .limits in
+      let r = p .passed .room in
       let m = p .bound in
       record {
         builder = b;
         used = ap (λ (x : Builder). take (x .used) (sets (areaOf gs ++ rest) (length (areaOf gs)) (headBytes (e .key) ++ versionBytes (marked e true)))) b
             ∙ area-new gs rest (e .key) (marked e true) (omega arith);
-        sound = sound-new e seq-fits offset-fits (p .value) gs s (p .key) (p .offset) (p .few) (omega arith);
+        sound = sound-new e seq-fits offset-fits (value-limit _ _ l) gs s (key-limit _ _ l) (p .offset) (p .few) (omega arith);
       }
 
-  steps-more : (gs : List KeyGroup) (g : KeyGroup) → Sound (gs ++ (g ∷ [])) → Passed (areaOf (gs ++ (g ∷ [])) ++ rest) (builderOf (gs ++ (g ∷ []))) (marked e false)
+  steps-more : (gs : List KeyGroup) (g : KeyGroup) → Sound (gs ++ (g ∷ [])) → Accepted (areaOf (gs ++ (g ∷ [])) ++ rest) (builderOf (gs ++ (g ∷ []))) (marked e false)
       → (builderAfter (areaOf (gs ++ (g ∷ [])) ++ rest) (builderOf (gs ++ (g ∷ []))) (countedOf (areaOf (gs ++ (g ∷ [])) ++ rest) (builderOf (gs ++ (g ∷ []))) (marked e false))
       ≡ builderOf (gs ++ (moreGroup g (storedOf e) ∷ [])))
       × (take (length (areaOf (gs ++ (moreGroup g (storedOf e) ∷ [])))) (areaAfter (areaOf (gs ++ (g ∷ [])) ++ rest) (builderOf (gs ++ (g ∷ []))) (marked e false))
@@ -188,17 +148,17 @@ module _ (e : Offer) (seq-fits : e .seq < 2 ^ 64) (offset-fits : e .offset < 2 ^
       let area = areaOf (gs ++ (g ∷ [])) ++ rest in
       let n = more-used-length gs g v in
       let c = last-count gs g rest s in
-      let r = p .room in
+      let r = p .passed .room in
       let m = p .bound in (
         ap (λ (k : ℕ). builderAfter area (builderOf (gs ++ (g ∷ []))) (countedAs (e .key) (k + 1) v false)) c ∙ builder-more area gs g (e .key) v,
         ap₂ (λ (k h : ℕ).
             take (length (areaOf (gs ++ (moreGroup g v ∷ []))))
             (sets (sets area (h + 4) (leBytes 4 (k + 1))) (length (areaOf (gs ++ (g ∷ [])))) (versionBytes (marked e false)))) c (place-last gs g)
             ∙ area-more-version gs g rest (marked e false) (omega arith),
-        sound-more e seq-fits offset-fits (p .value) gs g s (p .offset) (omega arith),
+        sound-more e seq-fits offset-fits (value-limit _ _ (p .passed .limits)) gs g s (p .offset) (omega arith),
       )
 
-  steps-last : (gs : List KeyGroup) → Sound gs → Passed (areaOf gs ++ rest) (builderOf gs) (marked e false) → 0 < length gs
+  steps-last : (gs : List KeyGroup) → Sound gs → Accepted (areaOf gs ++ rest) (builderOf gs) (marked e false) → 0 < length gs
       → Steps gs (marked e false) (stateAfter (areaOf gs ++ rest) (builderOf gs) (marked e false))
   unfolding groupsWith if_then_else_ storedOf groupsBefore lastGroup builderOf
   steps-last gs s p n =
@@ -206,7 +166,7 @@ module _ (e : Offer) (seq-fits : e .seq < 2 ^ 64) (offset-fits : e .offset < 2 ^
       let g = lastGroup gs in
       let f = marked e false in
       let whole : hs ++ (g ∷ []) ≡ gs = last-split gs noGroup n in
-      let r = steps-more hs g (subst⁻¹ Sound whole s) (subst⁻¹ (λ (k : List KeyGroup). Passed (areaOf k ++ rest) (builderOf k) f) whole p) in
+      let r = steps-more hs g (subst⁻¹ Sound whole s) (subst⁻¹ (λ (k : List KeyGroup). Accepted (areaOf k ++ rest) (builderOf k) f) whole p) in
       let b = subst (λ (k : List KeyGroup).
       builderAfter (areaOf k ++ rest) (builderOf k) (countedOf (areaOf k ++ rest) (builderOf k) f) ≡ builderOf (hs ++ (moreGroup g (storedOf e) ∷ []))) whole (r .0) in
       record {
@@ -217,16 +177,16 @@ module _ (e : Offer) (seq-fits : e .seq < 2 ^ 64) (offset-fits : e .offset < 2 ^
         sound = r .2;
       }
 
-  steps-marked : (gs : List KeyGroup) → Sound gs → (t : Bool) → Passed (areaOf gs ++ rest) (builderOf gs) (marked e t)
+  steps-marked : (gs : List KeyGroup) → Sound gs → (t : Bool) → Accepted (areaOf gs ++ rest) (builderOf gs) (marked e t)
       → Steps gs (marked e t) (stateAfter (areaOf gs ++ rest) (builderOf gs) (marked e t))
   unfolding builderOf groupTotals
   steps-marked gs s true p = steps-new gs s p
-  steps-marked gs s false p = steps-last gs s p (follows-key false (length gs) (p .follows) refl)
+  steps-marked gs s false p = steps-last gs s p (follows-key false (length gs) (p .passed .follows) refl)
 
   -- an add that is taken
   pub steps : (gs : List KeyGroup) → Sound gs → (s : BuilderState) → addOf (areaOf gs ++ rest) (builderOf gs) e ≡ given s → Steps gs e s
   steps gs sound s q =
-      let p = passed (areaOf gs ++ rest) (builderOf gs) e s q in
+      let p = accepted (areaOf gs ++ rest) (builderOf gs) e s q in
       subst⁻¹ (Steps gs e) (p .1) (steps-marked gs sound (e .new-key) (p .0))
 
 -- ---- what is refused

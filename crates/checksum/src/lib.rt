@@ -4,9 +4,10 @@ ghost use mathlib.Core.Path.{_≡_};
 ghost use mathlib.Core.Bool.{true};
 ghost use mathlib.Core.List.{[], _∷_};
 ghost use Prim.Native.Nat.{_<_};
-ghost use lib.ListN.{drop, replicate};
+ghost use lib.ListN.{drop};
 ghost use Rattle.num.specs.Number.{leBytes};
 ghost use Rattle.crc32.specs.V42.{crcOf, updateOf};
+ghost use Rattle.crc32.specs.Table.{entryOf};
 ghost use Rattle.checksum.specs.Halves.{isHalves};
 
 // The longest input that takes less time this way.
@@ -15,7 +16,7 @@ const SHORT: usize = 448;
 // The register after a byte and `slice` zero bytes, from a register of zeros.
 fn entry(table: &[[u32; 32]; 8], slice: usize, byte: u64) -> u32
     requires { ⌜ (isHalves (now table) ≡ true) × (slice < 8) × (byte < 256) ⌝ }
-    ensures { λ r. ⌜ r ≡ updateOf 0 (byte ∷ replicate slice 0) ⌝ }
+    ensures { λ r. ⌜ r ≡ entryOf slice byte ⌝ }
 {
     let low = (byte % 16) as usize;
     let high = (byte / 16) as usize + 16;

@@ -9,14 +9,9 @@ use lib.ListN.{length, set, length-set}
 use lib.Seq.{sets}
 use Rattle.point.specs.Hash.{hashOf}
 use Rattle.construction.specs.Construct.{hashesOf}
-use Rattle.area.specs.Area.{areaKey, nextHead, keysFrom, keysEnd, keysIn, area-defs}
+use Rattle.area.specs.Area.{areaKey, nextHead, keysFrom, keysEnd, keysIn}
+use Rattle.area.proofs.Keys.{keys-from}
 use Rattle.construct.specs.Keys.{KeysStand}
-
--- a walk over keys does not go back
-keys-end : (count : ℕ) (area : List ℕ) (at : ℕ) → at ≤ keysEnd count area at
-unfolding area-defs
-keys-end zero area at = omega arith
-keys-end (suc count) area at = omega (arith, keys-end count area (nextHead area at))
 
 -- `left` keys from a place on are left, and `i` are hashed
 pub record Hashing (area : List ℕ) (count seed : ℕ) (h₀ : List ℕ) (at i : ℕ) (h : List ℕ) : Type 0 where
@@ -47,7 +42,7 @@ module _ {area h₀ h : List ℕ} {count seed at i : ℕ} (st : Hashing area cou
       where
         go : (left : ℕ) → i + left ≡ count → keysEnd left area at ≤ length area → nextHead area at ≤ length area
         go zero t e = absurd (omega arith)
-        go (suc left) t e = omega (arith, keys-end left area (nextHead area at))
+        go (suc left) t e = omega (arith, keys-from left area (nextHead area at))
 
     pub hashing-turn : (next v : ℕ) → next ≡ nextHead area at → v ≡ hashOf (areaKey area at) seed → Hashing area count seed h₀ next (i + 1) (set h i v)
     unfolding keysEnd keysFrom hashesOf

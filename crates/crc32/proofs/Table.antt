@@ -15,7 +15,7 @@ use Rattle.num.proofs.Choice.{both-true, false-true}
 use Rattle.num.proofs.Lists.{bytes-one, bytes-zeros}
 use Rattle.num.proofs.Number.{pow-step, bytes-leBytes}
 use Rattle.crc32.specs.V42.{updateOf}
-use Rattle.crc32.specs.Table.{isFirst, isNext, areNext, isTable}
+use Rattle.crc32.specs.Table.{entryOf, isRow, isNext, areNext, isTable}
 use Rattle.crc32.proofs.Register.{steps, byteStep, register, steps-add, steps-linear, steps-byte, register-word}
 use Rattle.crc32.proofs.Division.{update-register}
 
@@ -34,7 +34,7 @@ bytes-entry b s h zero = h
 bytes-entry b s h (suc k) = bytes-zeros s k
 
 -- a byte and some zero bytes, from a register of zeros
-pub entry-steps : (s b : ℕ) → b < 256 → updateOf 0 (b ∷ replicate s 0) ≡ steps (8 * suc s) b
+pub entry-steps : (s b : ℕ) → b < 256 → entryOf s b ≡ steps (8 * suc s) b
 unfolding register byteStep
 entry-steps s b h =
     let n : 8 + 8 * s ≡ 8 * suc s = omega arith in
@@ -54,12 +54,15 @@ steps-low : (w : ℕ) → bitXor (steps 8 (w % 256)) (w / 256) ≡ steps 8 w
 unfolding steps
 steps-low w = sym (steps-split 0 w)
 
-first-at : (xs : List ℕ) (i : ℕ) → isFirst i xs ≡ true → (k : ℕ) → k < length xs → getD xs k 0 ≡ updateOf 0 ((i + k) ∷ [])
-unfolding isFirst
-first-at [] i t k h = absurd (not-suc-le-zero h)
-first-at (x ∷ xs) i t zero h = rw add-zero (eqb-true _ _ (both-true _ _ t .0))
-first-at (x ∷ xs) i t (suc k) h =
-    first-at xs (suc i) (both-true _ _ t .1) k (le-of-suc-le-suc h) ∙ ap (λ (n : ℕ). updateOf 0 (n ∷ [])) (suc-add i k ∙ sym (add-suc i k))
+row-from : (f : ℕ → ℕ) (xs : List ℕ) (i : ℕ) → isRow f i xs ≡ true → (k : ℕ) → k < length xs → getD xs k 0 ≡ f (i + k)
+unfolding isRow
+row-from f [] i t k h = absurd (not-suc-le-zero h)
+row-from f (x ∷ xs) i t zero h = rw add-zero (eqb-true _ _ (both-true _ _ t .0))
+row-from f (x ∷ xs) i t (suc k) h = row-from f xs (suc i) (both-true _ _ t .1) k (le-of-suc-le-suc h) ∙ ap f (suc-add i k ∙ sym (add-suc i k))
+
+-- what stands at each place of a row that passes the test
+pub row-at : (f : ℕ → ℕ) (xs : List ℕ) → isRow f 0 xs ≡ true → (k : ℕ) → k < length xs → getD xs k 0 ≡ f k
+row-at f xs t k h = row-from f xs 0 t k h ∙ ap f (zero-add k)
 
 next-at : (first ps xs : List ℕ) → isNext first ps xs ≡ true → (k : ℕ) → k < length ps
     → getD xs k 0 ≡ bitXor (getD first (getD ps k 0 % 256) 0) (getD ps k 0 / 256)
@@ -106,9 +109,9 @@ rows-at first hf (r ∷ rs) p n hp t (suc s) hs =
     subst (λ (m : ℕ). Row (suc m) (getD rs s [])) (suc-add n s ∙ sym (add-suc n s))
     (rows-at first hf rs r (suc n) (one-on first p r n hf hp (both-true _ _ t .0)) (both-true _ _ t .1) s (le-of-suc-le-suc hs))
 
-first-row : (r : List ℕ) → length r ≡ 256 → isFirst 0 r ≡ true → Row 0 r
+first-row : (r : List ℕ) → length r ≡ 256 → isRow (entryOf 0) 0 r ≡ true → Row 0 r
 unfolding Row
-first-row r l t = (l, λ k hk. first-at r 0 t k (rw l hk) ∙ ap (λ (n : ℕ). updateOf 0 (n ∷ [])) (zero-add k) ∙ entry-steps 0 k hk)
+first-row r l t = (l, λ k hk. row-at (entryOf 0) r t k (rw l hk) ∙ entry-steps 0 k hk)
 
 later-row : (r : List ℕ) (rs : List (List ℕ)) → length rs ≡ 7 → Row 0 r → areNext r r rs ≡ true → (s : ℕ) → s < 8 → Row s (getD (r ∷ rs) s [])
 later-row r rs l first t zero hs = first
@@ -125,36 +128,36 @@ table-rows (r ∷ rs) e s hs =
     later-row r rs (eqb-true _ _ (e₁ .0)) (first-row r (eqb-true _ _ (e₂ .0)) (e₃ .0)) (e₃ .1) s hs
 
 -- the rule at each entry of a table that passes the test
-pub table-at : (t : List (List ℕ)) → isTable t ≡ true → (s k : ℕ) → s < 8 → k < 256 → getD (getD t s []) k 0 ≡ updateOf 0 (k ∷ replicate s 0)
+pub table-at : (t : List (List ℕ)) → isTable t ≡ true → (s k : ℕ) → s < 8 → k < 256 → getD (getD t s []) k 0 ≡ entryOf s k
 unfolding Row
 table-at t e s k hs hk = table-rows t e s hs .1 k hk ∙ sym (entry-steps s k hk)
 
--- the bytes of a word, n and one more, each by its own steps
-unfoldable pub tables : ℕ → ℕ → ℕ
-tables zero w = steps 8 (w % 256)
-tables (suc n) w = bitXor (steps (8 * suc (suc n)) (w % 256)) (tables n (w / 256))
+-- the entries of the bytes of a word, n and one more, each from its own row of a table
+unfoldable pub entries : ℕ → ℕ → ℕ
+entries zero w = entryOf 0 (w % 256)
+entries (suc n) w = bitXor (entryOf (suc n) (w % 256)) (entries n (w / 256))
 
-tables-steps : (n w : ℕ) → w < 2 ^ (8 * suc n) → tables n w ≡ steps (8 * suc n) w
-unfolding tables
-tables-steps zero w h = ap (steps 8) (mod-eq-of-lt h)
-tables-steps (suc n) w h =
+entries-steps : (n w : ℕ) → w < 2 ^ (8 * suc n) → entries n w ≡ steps (8 * suc n) w
+unfolding entries
+entries-steps zero w h = entry-steps 0 (w % 256) (omega arith) ∙ ap (steps 8) (mod-eq-of-lt h)
+entries-steps (suc n) w h =
     let h′ : w < 256 * 2 ^ (8 * suc n) = rw pow-step at h in
     let m : 8 + 8 * suc n ≡ 8 * suc (suc n) = omega arith in
-    ap (bitXor (steps (8 * suc (suc n)) (w % 256))) (tables-steps n (w / 256) (omega arith))
+    ap₂ bitXor (entry-steps (suc n) (w % 256) (omega arith)) (entries-steps n (w / 256) (omega arith))
     ∙ ap (λ (k : ℕ). bitXor (steps k (w % 256)) (steps (8 * suc n) (w / 256))) (sym m)
     ∙ sym (steps-split (8 * suc n) w)
     ∙ ap (λ (k : ℕ). steps k w) m
 
--- the eight-table step: each byte of the word by its own table is 64 steps of the register
-pub eight-tables : (c v : ℕ) → c < 2 ^ 32 → v < 2 ^ 64 → tables 7 (bitXor v c) ≡ updateOf c (leBytes 8 v)
-eight-tables c v hc hv =
-    tables-steps 7 (bitXor v c) (xor-lt 64 v c hv (omega arith))
+-- the word step: the entries of its eight bytes are the register after them
+pub eight-entries : (c v : ℕ) → c < 2 ^ 32 → v < 2 ^ 64 → entries 7 (bitXor v c) ≡ updateOf c (leBytes 8 v)
+eight-entries c v hc hv =
+    entries-steps 7 (bitXor v c) (xor-lt 64 v c hv (omega arith))
     ∙ ap (steps 64) (xor-comm v c)
     ∙ sym (register-word 8 v c hv)
     ∙ sym (update-register c (leBytes 8 v) hc (bytes-leBytes 8 v))
 
 -- the byte step: the low byte of the register and the byte by the first table
-pub one-law : (c b w r : ℕ) → w ≡ b → b < 256 → c < 2 ^ 32 → r ≡ updateOf 0 ((bitXor c w % 256) ∷ replicate 0 0)
+pub one-law : (c b w r : ℕ) → w ≡ b → b < 256 → c < 2 ^ 32 → r ≡ entryOf 0 (bitXor c w % 256)
     → bitXor r (bitXor c w / 256 % 2 ^ 32) ≡ updateOf c (b ∷ [])
 unfolding register byteStep
 one-law c b w r e hb hc er =

@@ -3,18 +3,18 @@
 ghost use mathlib.Core.Path.{_≡_};
 ghost use mathlib.Core.Bool.{true};
 ghost use mathlib.Core.List.{[], _∷_};
-ghost use Prim.Native.Nat.{_<_, _≤_};
-ghost use lib.ListN.{length, drop, replicate};
+ghost use Prim.Native.Nat.{_<_};
+ghost use lib.ListN.{drop};
 ghost use Rattle.num.specs.Number.{leBytes};
 ghost use Rattle.crc32.specs.V42.{crcOf, updateOf, finalizeOf};
-ghost use Rattle.crc32.specs.Table.{isTable};
+ghost use Rattle.crc32.specs.Table.{entryOf, isTable};
 
 pub const INITIAL: u32 = 0xFFFF_FFFF;
 
 // The register after a byte and `slice` zero bytes, from a register of zeros.
 fn entry(table: &[[u32; 256]; 8], slice: usize, byte: u64) -> u32
     requires { ⌜ (isTable (now table) ≡ true) × (slice < 8) × (byte < 256) ⌝ }
-    ensures { λ r. ⌜ r ≡ updateOf 0 (byte ∷ replicate slice 0) ⌝ }
+    ensures { λ r. ⌜ r ≡ entryOf slice byte ⌝ }
 {
     let b = byte as usize;
     table[slice][b]

@@ -12,11 +12,11 @@ use Rattle.encoding.specs.declared.Encoding.{Encoding}
 use Rattle.encoding.specs.Encoding.{Widths, Bounded, keyHeaderLenOf, versionLenOf, arenaLenOf, scanLenOf, sectionLenOf, arenaStartOf, bucketsOf, encodingWith, encodingOf}
 use Rattle.encoding.proofs.Widths.{widths-le, encodingWith-widths, addressWidthOf-case}
 
-key-header-le : (e : Encoding) → Widths e → keyHeaderLenOf e ≤ 20
+pub key-header-le : (e : Encoding) → Widths e → keyHeaderLenOf e ≤ 20
 unfolding keyHeaderLenOf
 key-header-le e w = let h = widths-le e w in omega arith
 
-version-le : (e : Encoding) → Widths e → versionLenOf e ≤ 24
+pub version-le : (e : Encoding) → Widths e → versionLenOf e ≤ 24
 unfolding versionLenOf
 version-le e w =
     let h = widths-le e w in

@@ -18,14 +18,15 @@ use Rattle.num.proofs.Regions.{region-none, region-more, frame-none, frame-set}
 use Rattle.encoding.specs.declared.Encoding.{Encoding}
 use Rattle.encoding.specs.Encoding.{group, keyHeaderLenOf}
 use Rattle.area.specs.Area.{areaKeyLen, areaKey, firstVersionAt, nextHead, keysEnd}
-use Rattle.adding.proofs.Stores.{behind}
+use Rattle.area.proofs.Keys.{keys-next}
+use Rattle.num.proofs.Stores.{behind}
 use Rattle.written.specs.Joined.{joined}
 use Rattle.written.specs.Arena.{KeyGroup, groupAnchor, groupShared, groupAddress, groupBytes, arenaWritten}
 use Rattle.written.proofs.Stands.{joined-length}
 use Rattle.written.proofs.Groups.{address-step, arena-length}
 use Rattle.writer.specs.Write.{groupsIn}
 use Rattle.keyrecords.specs.Internal.{KeyVersionsStand, keyRecordBytes, keyRecordSize, ArenaAsked}
-use Rattle.keyrecords.proofs.Keys.{keys-next, addresses-rise, groups-count, next-inside, first-inside, key-stands, shared-inside, group-record, address-next, group-shared}
+use Rattle.keyrecords.proofs.Keys.{addresses-rise, groups-count, next-inside, first-inside, key-stands, shared-inside, group-record, address-next, group-shared}
 
 -- before key i; where it is no anchor, what is kept of one is its anchor's
 pub record Writing (area : List ℕ) (count : ℕ) (e : Encoding) (least : ℕ) (addresses₀ output₀ : List ℕ) (anchor anchor-address head at i : ℕ) (addresses output : List ℕ) : Type 0 where

@@ -13,38 +13,15 @@ use Rattle.num.specs.Order.{commonPrefixLen}
 use Rattle.encoding.specs.declared.Encoding.{Encoding}
 use Rattle.encoding.specs.Encoding.{group, keyHeaderLenOf}
 use Rattle.area.specs.Area.{areaVersionLen, areaKeyLen, areaVersions, areaKey, firstVersionAt, nextHead, keysEnd}
+use Rattle.area.proofs.Keys.{keys-next, keys-rise}
 use Rattle.written.specs.Arena.{StoredVersion, KeyGroup, noStored, noGroup, groupKey, groupVersions, groupVersion, groupAnchor, groupShared, groupSuffix, groupAddress, groupHeader, groupBytes, GroupsFit}
 use Rattle.written.proofs.Arena.{suffix-length}
 use Rattle.writer.specs.Write.{storedAt, storedFrom, groupAt, groupsFrom, groupsIn}
+use Rattle.writer.proofs.Groups.{stored-length, stored-index, groups-length}
 use Rattle.keyrecords.specs.Internal.{KeyVersionsStand, keyRecordBytes, keyRecordSize}
-use Rattle.keyversions.proofs.Versions.{stored-length, stored-index}
 use Rattle.keyrecords.proofs.Records.{key-length}
 
--- ---- the places of the heads
-
--- one key more stands behind the others
-pub keys-next : (n : ℕ) (area : List ℕ) (head : ℕ) → keysEnd (suc n) area head ≡ nextHead area (keysEnd n area head)
-unfolding keysEnd
-keys-next zero area head = refl
-keys-next (suc n) area head = keys-next n area (nextHead area head)
-
-keys-from : (n : ℕ) (area : List ℕ) (head : ℕ) → head ≤ keysEnd n area head
-unfolding keysEnd nextHead firstVersionAt
-keys-from zero area head = omega arith
-keys-from (suc n) area head = omega (arith, keys-from n area (nextHead area head))
-
-keys-rise : (i n : ℕ) (area : List ℕ) (head : ℕ) → i ≤ n → keysEnd i area head ≤ keysEnd n area head
-unfolding keysEnd
-keys-rise zero n area head h = keys-from n area head
-keys-rise (suc i) zero area head h = absurd (not-suc-le-zero h)
-keys-rise (suc i) (suc n) area head h = keys-rise i n area (nextHead area head) (omega arith)
-
 -- ---- the groups
-
-groups-length : (n : ℕ) (area : List ℕ) (head : ℕ) → length (groupsFrom n area head) ≡ n
-unfolding groupsFrom
-groups-length zero area head = refl
-groups-length (suc n) area head = ap suc (groups-length n area (nextHead area head))
 
 groups-index : (n : ℕ) (area : List ℕ) (head i : ℕ) → i < n → getD (groupsFrom n area head) i noGroup ≡ groupAt area (keysEnd i area head)
 unfolding groupsFrom keysEnd

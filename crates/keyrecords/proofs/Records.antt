@@ -10,7 +10,7 @@ use Rattle.num.proofs.Lists.{part-length, part-part}
 use Rattle.encoding.specs.declared.Encoding.{Encoding}
 use Rattle.encoding.specs.Encoding.{keyHeaderLenOf}
 use Rattle.area.specs.Area.{headLen, areaKeyLen, areaVersions, areaKey, firstVersionAt}
-use Rattle.adding.proofs.Stores.{behind}
+use Rattle.num.proofs.Stores.{behind}
 use Rattle.written.specs.Joined.{fieldsBytes}
 use Rattle.written.specs.Arena.{keyHeaderFields, storedBytes}
 use Rattle.written.proofs.Groups.{key-header-length}

@@ -9,7 +9,7 @@ use Rattle.num.specs.Number.{leBytes}
 use Rattle.num.proofs.Choice.{oneOf-case}
 use Rattle.encoding.specs.declared.Encoding.{Encoding}
 use Rattle.encoding.specs.Encoding.{Widths, tombstoneOf}
-use Rattle.adding.proofs.Stores.{behind-number}
+use Rattle.num.proofs.Stores.{behind-number}
 use Rattle.written.specs.Joined.{Field, fieldsBytes}
 use Rattle.written.specs.Joined.Field.{field}
 use Rattle.written.specs.Arena.{StoredVersion, markedSize, checksumFields, storedFields}

@@ -1,41 +1,21 @@
 -- The versions from a place of the area on, and what is written of them turn by turn.
 -- Assumes nothing.
-use mathlib.Core.Path.{_≡_, refl, sym, ap, ap₂, _∙_}
-use mathlib.Core.List.{List, _++_}
-use Prim.Native.Nat.{ℕ, zero, suc, _+_, _*_, _<_}
-use native.Mathlib.Nat.{not-suc-le-zero}
+use mathlib.Core.Path.{_≡_, refl, sym, ap, _∙_}
+use mathlib.Core.List.{List}
+use Prim.Native.Nat.{ℕ, _+_, _*_}
 use native.Mathlib.Numerals.{add-one}
-use native.Mathlib.Omega.{arith}
 use lib.ListN.{length, getD}
 use lib.Seq.{sets}
 use Rattle.encoding.specs.declared.Encoding.{Encoding}
 use Rattle.encoding.specs.Encoding.{versionLenOf}
 use Rattle.area.specs.Area.{areaVersionLen}
-use Rattle.adding.proofs.Stores.{behind}
+use Rattle.num.proofs.Stores.{behind}
 use Rattle.written.specs.Joined.{joined, fieldsBytes}
 use Rattle.written.specs.Arena.{noStored, storedFields, storedBytes}
-use Rattle.written.proofs.Stands.{even-length}
+use Rattle.written.proofs.Stands.{even-length, joined-same}
 use Rattle.written.proofs.Groups.{version-length}
 use Rattle.writer.specs.Write.{storedAt, storedFrom}
-
-pub stored-length : (n : ℕ) (area : List ℕ) (place : ℕ) → length (storedFrom n area place) ≡ n
-unfolding storedFrom
-stored-length zero area place = refl
-stored-length (suc n) area place = ap suc (stored-length n area (place + areaVersionLen))
-
-pub stored-index : (n : ℕ) (area : List ℕ) (place j : ℕ) → j < n → getD (storedFrom n area place) j noStored ≡ storedAt area (place + areaVersionLen * j)
-unfolding storedFrom
-stored-index zero area place j h = absurd (not-suc-le-zero h)
-stored-index (suc n) area place zero h = let e : place ≡ place + areaVersionLen * 0 = omega arith in ap (storedAt area) e
-stored-index (suc n) area place (suc j) h =
-    let e : place + areaVersionLen + areaVersionLen * j ≡ place + areaVersionLen * suc j = omega arith in
-    stored-index n area (place + areaVersionLen) j (omega arith) ∙ ap (storedAt area) e
-
--- pieces that are the same are the same joined
-joined-same : (f g : ℕ → List ℕ) (n : ℕ) → ((k : ℕ) → k < n → f k ≡ g k) → joined f n ≡ joined g n
-unfolding joined
-joined-same f g zero same = refl
-joined-same f g (suc n) same = ap₂ (λ (a b : List ℕ). a ++ b) (joined-same f g n (λ k h. same k (omega arith))) (same n (omega arith))
+use Rattle.writer.proofs.Groups.{stored-length, stored-index}
 
 module _ (e : Encoding) (least : ℕ) (area : List ℕ) (first : ℕ) where
   -- version j as it is written, and the first ones

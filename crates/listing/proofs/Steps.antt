@@ -3,12 +3,12 @@
 use mathlib.Core.Path.{_≡_, refl, sym, ap, _∙_, subst}
 use mathlib.Core.List.{List, [], _∷_, _++_, map}
 use mathlib.Core.Bool.{Bool, true, false}
-use Prim.Native.Nat.{ℕ, suc, _+_, _-_, _<_, _≤_}
+use Prim.Native.Nat.{ℕ, _+_, _-_, _<_, _≤_}
 use native.Mathlib.Nat.{add-assoc}
 use native.Mathlib.Omega.{arith}
 use lib.Dec.{leb}
 use lib.ListN.{length, getD, take, drop, length-drop}
-use lib.Seq.{drop-cons, length-take-le}
+use lib.Seq.{length-take-le}
 use borrow.Author.Tests.{leb-true, leb-false}
 use Rattle.sstable.specs.declared.Kind.{Kind}
 use Rattle.sstable.specs.declared.Kind.the-variants.{Put, Tombstone}
@@ -20,6 +20,7 @@ use Rattle.block.specs.Walk.{Entry, noEntries, entryThen, walkAt, entryOf, reco
 use Rattle.block.proofs.Step.{step-met, step-stop}
 use Rattle.block.proofs.Walk.{walk-done, walk-stop, walk-more}
 use Rattle.opening.specs.Open.{blockBytes}
+use Rattle.opening.proofs.Pairs.{drop-pair}
 use Rattle.admission.specs.Blocks.{inData, blockEntries, storeEntries}
 use Rattle.lines.specs.Lines.{recordLine, liveOne, liveOf}
 use Rattle.listing.specs.declared.walk.Place.{Place}
@@ -51,14 +52,6 @@ entries-start «data» [] = refl
 entries-start «data» (offset ∷ []) = refl
 entries-start «data» (offset ∷ len ∷ pairs) = refl
 
-pair-stands : (blocks : List ℕ) (i : ℕ) → i + 1 < length blocks → drop i blocks ≡ getD blocks i 0 ∷ getD blocks (i + 1) 0 ∷ drop (i + 2) blocks
-pair-stands blocks i h =
-    let m : suc i ≡ i + 1 = omega arith in
-    let n : suc (i + 1) ≡ i + 2 = omega arith in
-    drop-cons blocks i 0 (omega arith)
-    ∙ ap (λ (k : ℕ). getD blocks i 0 ∷ drop k blocks) m
-    ∙ ap (λ (l : List ℕ). getD blocks i 0 ∷ l) (drop-cons blocks (i + 1) 0 h ∙ ap (λ (k : ℕ). getD blocks (i + 1) 0 ∷ drop k blocks) n)
-
 -- behind the last pair nothing is left
 pub entries-end : («data» blocks : List ℕ) (p : Place) (keys : List ℕ) → length blocks - p .pair < 2 → entriesLeft «data» blocks p keys ≡ []
 unfolding entriesLeft entriesFrom
@@ -80,7 +73,7 @@ left-here : («data» blocks : List ℕ) (p : Place) (keys : List ℕ) → p .pa
     ≡ map (inData (getD blocks (p .pair) 0)) (walkAt (rawAt «data» blocks p) (entriesEndIn (rawAt «data» blocks p)) (p .pos) (take (p .«key_len») keys) .entries)
     ++ storeEntries «data» (drop (p .pair + 2) blocks)
 unfolding entriesLeft entriesFrom
-left-here «data» blocks p keys h = ap (entriesFrom «data» (p .pos) (take (p .«key_len») keys)) (pair-stands blocks (p .pair) h)
+left-here «data» blocks p keys h = ap (entriesFrom «data» (p .pos) (take (p .«key_len») keys)) (drop-pair blocks (p .pair) h)
 
 live-few : (k : Kind) → liveOne k ≤ 1
 unfolding liveOne

@@ -5,12 +5,13 @@ use mathlib.Core.List.{List}
 use Prim.Native.Nat.{ℕ, _≤_}
 use native.Mathlib.Omega.{arith}
 use Rattle.header.specs.declared.Opened.{Opened}
+use Rattle.header.proofs.Questions.{yes-packed}
 use Rattle.packed.specs.Packed.{packedBytes}
 use Rattle.agreement.specs.Keys.{versionSeq}
 use Rattle.admission.specs.Blocks.{storeEntries}
 use Rattle.admission.specs.Admits.{OpensExactly, PacksExactly}
 use Rattle.admission.proofs.Opening.{open-exactly}
-use Rattle.admission.proofs.PackedOpening.{open-packed-exactly, fits-pass}
+use Rattle.admission.proofs.PackedOpening.{open-packed-exactly}
 use Rattle.lookup.specs.Lookup.{noLimit}
 use Rattle.locating.specs.Store.{LinkerStore, Store, plainOpening, packedOpening, Version, Holds}
 use Rattle.locating.specs.Looks.{LooksExactly}
@@ -28,7 +29,7 @@ store-indexed t (plainOpening scratch e) =
 store-indexed t (packedOpening section scratch room e) =
     let f = open-packed-exactly section (t .backing) (t .blocks) scratch room (t .opened) (t .bytes) .0 e in
     let a = f .admits in
-    let x = packed-indexed section (t .backing) (t .blocks) scratch (f .plain) (a .admits) (fits-pass (f .plain) (a .checksums) (a .few)) (a .pilots) in
+    let x = packed-indexed section (t .backing) (t .blocks) scratch (f .plain) (a .admits) (yes-packed (f .plain) (a .checksums) (a .few)) (a .pilots) in
     subst (λ (s : List ℕ). Indexed s (t .opened) (t .backing) (storeEntries (t .backing) (t .blocks))) (sym (f .same-bytes))
     (subst (λ (o : Opened). Indexed (packedBytes section (f .plain)) o (t .backing) (storeEntries (t .backing) (t .blocks))) (sym (f .same-record)) x)
 

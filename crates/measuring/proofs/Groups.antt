@@ -2,37 +2,16 @@
 -- Assumes nothing.
 use mathlib.Core.Path.{_≡_, refl, ap, _∙_}
 use mathlib.Core.List.{List, map}
-use Prim.Native.Nat.{ℕ, zero, suc, _+_, _*_, _<_}
+use Prim.Native.Nat.{ℕ, zero, suc, _+_, _<_}
 use native.Mathlib.Omega.{arith}
 use lib.ListN.{length, getD}
-use Rattle.area.specs.Area.{areaVersionLen, areaVersions, areaKey, firstVersionAt, nextHead, keysFrom, keysIn, keysEnd}
+use Rattle.area.specs.Area.{areaVersions, areaKey, firstVersionAt, nextHead, keysFrom, keysIn, keysEnd}
 use Rattle.readback.specs.Places.{areaVersionAt, headAt}
 use Rattle.written.specs.Arena.{StoredVersion, KeyGroup, noStored, noGroup, groupKey, groupVersions, groupVersion}
 use Rattle.writer.specs.Write.{storedAt, storedFrom, groupAt, groupsFrom, groupsIn}
-
--- ---- the versions of a key
-
-pub stored-length : (count : ℕ) (area : List ℕ) (place : ℕ) → length (storedFrom count area place) ≡ count
-unfolding storedFrom
-stored-length zero area place = refl
-stored-length (suc count) area place = ap suc (stored-length count area (place + areaVersionLen))
-
-stored-at : (count : ℕ) (area : List ℕ) (place j : ℕ) → j < count → getD (storedFrom count area place) j noStored ≡ storedAt area (place + areaVersionLen * j)
-unfolding storedFrom
-stored-at zero area place j l = absurd (omega arith)
-stored-at (suc count) area place zero l =
-    let e : place ≡ place + areaVersionLen * 0 = omega arith in
-    ap (storedAt area) e
-stored-at (suc count) area place (suc j) l =
-    let e : place + areaVersionLen + areaVersionLen * j ≡ place + areaVersionLen * suc j = omega arith in
-    stored-at count area (place + areaVersionLen) j (omega arith) ∙ ap (storedAt area) e
+use Rattle.writer.proofs.Groups.{stored-length, stored-index, groups-length}
 
 -- ---- the keys
-
-groups-length : (count : ℕ) (area : List ℕ) (head : ℕ) → length (groupsFrom count area head) ≡ count
-unfolding groupsFrom
-groups-length zero area head = refl
-groups-length (suc count) area head = ap suc (groups-length count area (nextHead area head))
 
 group-from : (count : ℕ) (area : List ℕ) (k i : ℕ) → i < count → getD (groupsFrom count area (headAt area k)) i noGroup ≡ groupAt area (headAt area (k + i))
 unfolding groupsFrom headAt
@@ -98,4 +77,4 @@ module _ (area : List ℕ) (n : ℕ) where
     unfolding groupVersion areaVersionAt
     version-in j l =
         ap (λ (vs : List StoredVersion). getD vs j noStored) versions-in
-        ∙ stored-at (areaVersions area (headAt area i)) area (firstVersionAt area (headAt area i)) j l
+        ∙ stored-index (areaVersions area (headAt area i)) area (firstVersionAt area (headAt area i)) j l

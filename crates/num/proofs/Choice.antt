@@ -58,6 +58,15 @@ pub both-yes : (a b r : Bool) → a ≡ true → r ≡ b → r ≡ both a b
 unfolding both
 both-yes a b r e p = p ∙ sym (ap (λ (t : Bool). both t b) e)
 
+-- the same with an alternative: the first yes is the answer, each no goes on
+pub either-yes : (a b : Bool) → a ≡ true → true ≡ either a b
+unfolding either
+either-yes a b e = sym (ap (λ (t : Bool). either t b) e)
+
+pub either-no : (a b r : Bool) → a ≡ false → r ≡ b → r ≡ either a b
+unfolding either
+either-no a b r e p = p ∙ sym (ap (λ (t : Bool). either t b) e)
+
 -- ---- choices and disjunctions that are decided
 
 -- a choice whose second arm is not the result came out at the first

@@ -8,6 +8,7 @@ pub mod Parts
 pub mod Pieces
 pub mod Product
 pub mod Steps
+pub mod Stores
 pub mod Xor
 pub mod Overlap
 pub mod Regions

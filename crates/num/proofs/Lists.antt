@@ -2,7 +2,7 @@
 -- A part of n elements from a place is `take n (drop place l)`; a run of stores is `sets`.
 -- Assumes nothing.
 use mathlib.Core.Path.{_≡_, refl, sym, ap, _∙_}
-use mathlib.Core.List.{List, [], _∷_, _++_, append-assoc, List·Memᴰ, List·Memᴰ·head, List·Memᴰ·tail, List·Memᴰ·not-nil}
+use mathlib.Core.List.{List, [], _∷_, _++_, map, append-assoc, List·Memᴰ, List·Memᴰ·head, List·Memᴰ·tail, List·Memᴰ·not-nil}
 use Prim.Native.Nat.{ℕ, zero, suc, _+_, _-_, _<_, _≤_}
 use native.Mathlib.Nat.{add-zero, not-suc-le-zero}
 use native.Mathlib.Omega.{arith}
@@ -114,6 +114,13 @@ module _ {ℓ} {A : Type ℓ} where
   pub drop-sets-behind : (vs l : List A) (i place : ℕ) → i + length vs ≤ place → drop place (sets l i vs) ≡ drop place l
   drop-sets-behind [] l i place h = refl
   drop-sets-behind (a ∷ vs) l i place h = drop-sets-behind vs (set l i a) (suc i) place (omega arith) ∙ drop-set-lt place l i a (omega arith)
+
+-- ---- lists mapped
+
+pub map-at : {A B : Type 0} (f : A → B) (l : List A) (i : ℕ) (d : A) (z : B) → i < length l → getD (map f l) i z ≡ f (getD l i d)
+map-at f [] i d z h = absurd (not-suc-le-zero h)
+map-at f (x ∷ l) zero d z h = refl
+map-at f (x ∷ l) (suc i) d z h = map-at f l i d z (omega arith)
 
 -- ---- lists of bytes
 

@@ -2,18 +2,18 @@
 -- Assumes nothing.
 use mathlib.Core.Path.{_≡_, refl, sym, ap, _∙_}
 use mathlib.Core.Bool.{true}
-use mathlib.Core.List.{List, [], _∷_, _++_, append-nil, append-assoc}
+use mathlib.Core.List.{List, [], _∷_, _++_, append-assoc}
 use Prim.Native.Nat.{ℕ, suc, _+_, _-_, _/_, _%_, _<_, _≤_}
 use native.Mathlib.Nat.{zero-add}
 use native.Mathlib.Omega.{arith}
-use lib.ListN.{length, getD, set, take, drop, drop-of-length-le, length-append, length-drop}
-use lib.Seq.{sets, sets-eq, drop-drop, take-all, length-sets}
-use borrow.Rule.Slice.PartMut.{midOf, putMid}
+use lib.ListN.{length, getD, set, take, drop, length-append}
+use lib.Seq.{sets, length-sets}
 use Rattle.num.specs.Choice.{oneOf}
 use Rattle.num.specs.Number.{leBytes}
 use Rattle.num.proofs.Choice.{oneOf-case}
 use Rattle.num.proofs.Copy.{copy-step}
-use Rattle.num.proofs.Lists.{part-length, part-append, sets-append}
+use Rattle.num.proofs.Lists.{part-length, part-append}
+use Rattle.num.proofs.Stores.{behind, tailOf, tailPut, sets-tail}
 
 -- three and four bytes of a number, stored one by one
 pub sets-three : (out : List ℕ) (at v : ℕ) → set (set (set out at (v % 256)) (at + 1) (v / 256 % 256)) (at + 2) (v / 256 / 256 % 256) ≡ sets out at (leBytes 3 v)
@@ -39,7 +39,7 @@ copy-turn out s from count i h l = simp zero-add at (copy-step out s 0 from coun
 
 -- a run of stores and the one behind it are one run
 pub sets-first : (out w v l : List ℕ) (a b : ℕ) → a + length w ≡ b → w ++ v ≡ l → sets (sets out a w) b v ≡ sets out a l
-sets-first out w v l a b e p = ap (λ (k : ℕ). sets (sets out a w) k v) (sym e) ∙ sets-append w v out a ∙ ap (sets out a) p
+sets-first out w v l a b e p = behind out (sets out a w) (sets (sets out a w) b v) w v a b e refl refl ∙ ap (sets out a) p
 
 -- eight bytes copied four by four
 pub sets-eight : (out s : List ℕ) (at from address : ℕ) → from + address ≤ length s → address ≡ 8
@@ -58,34 +58,14 @@ eight-most w e = oneOf-case (λ n. n ≤ 8) _ w e (omega arith, (omega arith, tt
 pub not-four : (w : ℕ) → oneOf (4 ∷ 8 ∷ []) w ≡ true → (w ≡ 4 → ⊥) → w ≡ 8
 not-four w e n = oneOf-case (λ k. w ≡ k → w ≡ 8) _ w e ((λ q. absurd (n q)), ((λ q. q), tt)) refl
 
--- ---- a tail that was lent on: the elements from a on, and the list with others in their place
-
-abbrev pub tailOf : ℕ → List ℕ → List ℕ
-tailOf a xs = midOf a (length xs - a) xs
-
-abbrev pub tailPut : ℕ → List ℕ → List ℕ → List ℕ
-tailPut a xs ys = putMid a (length xs - a) xs ys
-
--- a run of stores at the front of a tail is one at its place in the whole
-sets-tail : (xs ys w : List ℕ) (a : ℕ) → a + length w ≤ length xs → ys ≡ sets (tailOf a xs) 0 w → tailPut a xs ys ≡ sets xs a w
-sets-tail xs ys w a h e =
-    let d = drop a xs in
-    let n : length d ≡ length xs - a = length-drop a xs in
-    let l : length d ≤ length xs - a = omega arith in
-    let f : 0 + length w ≤ length d = omega arith in
-    let r : tailPut a xs (w ++ drop (0 + length w) (drop a xs)) ≡ sets xs a w =
-    simp (drop-of-length-le (drop a xs) l, append-nil, zero-add, drop-drop) (sym (sets-eq w xs a h ∙ append-assoc (take a xs) w (drop (a + length w) xs))) in
-    ap (tailPut a xs) (e ∙ ap (λ (t : List ℕ). sets t 0 w) (take-all (length xs - a) d l) ∙ sets-eq w d 0 f) ∙ r
+-- ---- a tail that was lent on
 
 -- a run of stores in a tail, behind another at the front, is one run with it
 pub sets-behind : (out xs ys w v : List ℕ) (b : ℕ) → xs ≡ sets out 0 w → length w ≡ b → b + length v ≤ length out → ys ≡ sets (tailOf b xs) 0 v
     → tailPut b xs ys ≡ sets out 0 (w ++ v)
 sets-behind out xs ys w v b e n h p =
     let m : length xs ≡ length out = ap length e ∙ length-sets out 0 w in
-    sets-tail xs ys v b (omega arith) p
-    ∙ ap (λ (l : List ℕ). sets l b v) e
-    ∙ ap (λ (k : ℕ). sets (sets out 0 w) k v) (sym n ∙ sym (zero-add (length w)))
-    ∙ sets-append w v out 0
+    behind out xs (tailPut b xs ys) w v 0 b (zero-add (length w) ∙ n) e (sets-tail xs ys v b (omega arith) p)
 
 -- two runs, each in the tail behind the one before it, go on with the one at the front
 pub two-behind : (out x l₂ l₃ w₁ w₂ w₃ : List ℕ) (a b : ℕ) → x ≡ sets out 0 w₁ → length w₁ ≡ a → a + length w₂ ≡ b → b + length w₃ ≤ length out

@@ -10,12 +10,13 @@ use lib.Seq.{sets, take-all, length-take-le}
 use Rattle.num.specs.Number.{leBytes}
 use Rattle.num.proofs.Lists.{part-length}
 use Rattle.num.proofs.Number.{length-leBytes}
+use Rattle.num.proofs.Stores.{tailOf, tailPut}
 use Rattle.encoding.specs.Encoding.{headerLen, trailerLen}
 use Rattle.header.specs.declared.Opened.{Opened}
 use Rattle.header.specs.Header.{arenaEnd, packedRecord}
 use Rattle.header.specs.Facts.{Header}
 use Rattle.packed.specs.Packed.{pilotAt, packPilot, packedPilots, slotAddress, packedAddresses, arenaBytes, packedBytes}
-use Rattle.packed.proofs.Laws.{tailOf, tailPut, sets-first, two-behind, five-lists}
+use Rattle.packed.proofs.Laws.{sets-first, two-behind, five-lists}
 use Rattle.packed.proofs.Lengths.{length-pilots, length-address, length-addresses, slots-fit, length-last, packed-arena, packed-places}
 
 module _ (s : List ℕ) where

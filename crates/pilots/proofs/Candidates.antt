@@ -2,9 +2,9 @@
 -- Assumes nothing.
 use mathlib.Core.Path.{_≡_, refl, sym, ap, _∙_, subst}
 use mathlib.Core.Bool.{Bool, true, false, not}
-use mathlib.Core.List.{List, [], _∷_, map}
+use mathlib.Core.List.{List, [], _∷_}
 use Prim.Native.Nat.{ℕ, zero, suc, _+_, _<_, _≤_}
-use native.Mathlib.Nat.{not-suc-le-zero, mod-lt}
+use native.Mathlib.Nat.{not-suc-le-zero}
 use native.Mathlib.Omega.{arith}
 use lib.Dec.{eqb, ltb}
 use lib.ListN.{length, getD, set, take, length-set, length-map}
@@ -13,9 +13,11 @@ use borrow.Author.Tests.{eq-eqb, ne-eqb, lt-ltb, le-ltb, eqb-true, eqb-false, lt
 use Rattle.num.specs.Choice.{if_then_else_, both, either, oneOf, eachBelow}
 use Rattle.num.specs.Internal.{RegionHolds}
 use Rattle.num.proofs.Choice.{false-true, both-true, true-both, both-no, both-yes, if-case, if-true, if-false, second-either, same-truth}
+use Rattle.num.proofs.Lists.{map-at}
 use Rattle.num.proofs.Steps.{yes-each, each-no}
 use Rattle.num.proofs.Regions.{region-none, region-more, region-other}
 use Rattle.point.specs.Hash.{positionOf}
+use Rattle.point.proofs.Slots.{position-lt}
 use Rattle.construction.specs.Construct.{isFree, different, placeable, positionsOf}
 use Rattle.construction.specs.Scratch.{candidatesAt, slotsAt, indicesAt}
 use Rattle.pilots.specs.Internal.{Fits, Members, Keeps, Indexed, Tried, Trying, Tested, partOf, few, slotsIn, isCandidate, canJoin, candidateTaken}
@@ -69,26 +71,17 @@ module _ (slots ats : List ℕ) where
 
 -- ---- positions
 
-map-at : (f : ℕ → ℕ) (l : List ℕ) (j : ℕ) → j < length l → getD (map f l) j 0 ≡ f (getD l j 0)
-map-at f [] j h = absurd (not-suc-le-zero h)
-map-at f (x ∷ l) zero h = refl
-map-at f (x ∷ l) (suc j) h = map-at f l j (omega arith)
-
 positions-length : (hs members : List ℕ) (pilot : ℕ) → length (positionsOf hs members pilot) ≡ length members
 unfolding positionsOf
 positions-length hs members pilot = length-map members (λ i. positionOf (getD hs i 0) pilot (length hs))
 
 positions-at : (hs members : List ℕ) (pilot j : ℕ) → j < length members → getD (positionsOf hs members pilot) j 0 ≡ positionOf (getD hs (getD members j 0) 0) pilot (length hs)
 unfolding positionsOf
-positions-at hs members pilot j h = map-at (λ i. positionOf (getD hs i 0) pilot (length hs)) members j h
-
-pub position-below : (h pilot n : ℕ) → 1 ≤ n → positionOf h pilot n < n
-unfolding positionOf
-position-below h pilot n l = mod-lt _ l
+positions-at hs members pilot j h = map-at (λ i. positionOf (getD hs i 0) pilot (length hs)) members j 0 0 h
 
 -- a position is a slot
 pub positions-below : (hs members : List ℕ) (pilot j : ℕ) → 1 ≤ length hs → j < length members → getD (positionsOf hs members pilot) j 0 < length hs
-positions-below hs members pilot j l h = rw (positions-at hs members pilot j h) (position-below (getD hs (getD members j 0) 0) pilot (length hs) l)
+positions-below hs members pilot j l h = rw (positions-at hs members pilot j h) (position-lt (getD hs (getD members j 0) 0) pilot (length hs) l)
 
 -- ---- the tests of one slot, as the code makes them: `indices`, `candidates` and `slots` are where the regions are
 
@@ -306,7 +299,7 @@ module _ {hs s₀ s : List ℕ} {first size pilot j : ℕ} (t : Trying hs first 
     slots-same = keeps-slots (t .keeps) fits (omega arith)
 
     at-slot : at < length hs
-    at-slot = rw e (position-below (getD hs (getD s (first + j) 0) 0) pilot (length hs) (fits .some-key))
+    at-slot = rw e (position-lt (getD hs (getD s (first + j) 0) 0) pilot (length hs) (fits .some-key))
 
     candidateTaken-keeps : Keeps (length hs) (candidatesAt (length hs)) (indicesAt (length hs)) s₀ (candidateTaken (length hs) s at j size)
     unfolding candidateTaken

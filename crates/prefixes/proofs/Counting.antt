@@ -16,8 +16,8 @@ use Rattle.num.specs.Number.{leAt}
 use Rattle.num.specs.Order.{equalBytes}
 use Rattle.num.proofs.Lists.{part-length}
 use Rattle.num.proofs.Order.{equalBytes-other}
-use Rattle.num.proofs.Steps.{steps-le}
 use Rattle.area.specs.Area.{areaKeyLen, areaKey, nextHead, keysEnd, area-defs}
+use Rattle.area.proofs.Keys.{keys-next, keys-rise}
 use Rattle.construct.specs.Keys.{KeysStand}
 use Rattle.written.specs.Arena.{noGroup, groupKey}
 use Rattle.written.specs.Section.{groupPrefixNew, groupPrefixes}
@@ -27,18 +27,9 @@ use Rattle.prefixes.specs.Internal.{HeadInside}
 
 -- ---- where the heads stand: that of key i behind i keys
 
-head-next : (i : ℕ) (area : List ℕ) (head : ℕ) → keysEnd (suc i) area head ≡ nextHead area (keysEnd i area head)
-unfolding keysEnd
-head-next zero area head = refl
-head-next (suc i) area head = head-next i area (nextHead area head)
-
-heads-rise : (area : List ℕ) (i n : ℕ) → i ≤ n → keysEnd i area 0 ≤ keysEnd n area 0
-unfolding area-defs
-heads-rise area i n h = steps-le (λ (k : ℕ). keysEnd k area 0) (λ k. omega (arith, head-next k area 0)) i n h
-
 module _ {area : List ℕ} {n : ℕ} (s : KeysStand area n) (i head : ℕ) (l : i < n) (e : head ≡ keysEnd i area 0) where
   pub next-inside : nextHead area head ≤ length area
-  next-inside = let h = s .inside in omega (arith, heads-rise area (suc i) n l, head-next i area 0, ap (nextHead area) e)
+  next-inside = let h = s .inside in omega (arith, keys-rise (suc i) n area 0 l, keys-next i area 0, ap (nextHead area) e)
 
   pub head-inside : HeadInside area head
   unfolding area-defs
@@ -139,7 +130,7 @@ module _ {area : List ℕ} {n prefix prefixes head k : ℕ} (c : Counting area n
 
     module _ (next : ℕ) (l : suc k < n) (e : next ≡ nextHead area head) where
       next-place : next ≡ keysEnd (suc k) area 0
-      next-place = e ∙ ap (nextHead area) (c .place) ∙ sym (head-next k area 0)
+      next-place = e ∙ ap (nextHead area) (c .place) ∙ sym (keys-next k area 0)
 
       pub counting-next-inside : HeadInside area next
       counting-next-inside = head-inside s (suc k) next l next-place

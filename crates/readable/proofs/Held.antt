@@ -22,7 +22,7 @@ use Rattle.written.specs.Joined.{Field, fieldsBytes}
 use Rattle.written.specs.Joined.Field.{field}
 use Rattle.written.specs.Internal.{fieldsLen, FieldsRead}
 use Rattle.writer.specs.Write.{storedAt, storedFrom, groupAt, groupsFrom, groupsIn}
-use Rattle.measuring.proofs.Groups.{stored-length}
+use Rattle.writer.proofs.Groups.{stored-length}
 use Rattle.building.specs.Taken.{areaFields, areaOfVersions, areaOfGroup, areaOf}
 
 -- what stands at a place is a part, and the rest behind it

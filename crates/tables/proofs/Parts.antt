@@ -16,14 +16,14 @@ use Rattle.num.proofs.Number.{length-leBytes}
 use Rattle.point.specs.Hash.{fingerprintOf}
 use Rattle.encoding.specs.declared.Encoding.{Encoding}
 use Rattle.encoding.specs.Encoding.{magic, scanMagic, scanHeaderLen, stride}
-use Rattle.adding.proofs.Stores.{behind}
+use Rattle.num.proofs.Stores.{behind}
 use Rattle.written.specs.Joined.{joined, fieldsBytes}
 use Rattle.written.specs.Joined.Field.{field}
 use Rattle.written.specs.Arena.{KeyGroup, groupAddress}
 use Rattle.written.specs.Section.{slotFields, slotsBytes, groupPrefixes, scanAddresses, scanPartBytes, flagsFor, prologueFields, section-defs}
-use Rattle.written.proofs.Stands.{even-length, fields-length}
+use Rattle.written.proofs.Stands.{joined-same, even-length, fields-length}
 use Rattle.tables.specs.Internal.{countFields, widthFields, numbersBytes, listedSlot, listedSlots, listedScanFields, listedScan, Addressed, HashedUnder, SlotsFilled, tables-defs}
-use Rattle.tables.proofs.Stores.{fields-append, joined-same}
+use Rattle.tables.proofs.Stores.{fields-append}
 
 -- the flags are one for the checksums and one for the scan part
 pub flags-sum : (e : Encoding) (prefix : ℕ) → flagsFor e prefix ≡ (if e .checksum then 1 else 0) + (if ltb 0 prefix then 2 else 0)

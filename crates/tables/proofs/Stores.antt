@@ -2,7 +2,7 @@
 -- Assumes nothing.
 use mathlib.Core.Path.{_≡_, refl, sym, ap, _∙_}
 use mathlib.Core.List.{List, [], _∷_, _++_, append-nil, append-assoc}
-use Prim.Native.Nat.{ℕ, zero, suc, _+_, _*_, _-_, _<_}
+use Prim.Native.Nat.{ℕ, _+_, _*_, _-_, _<_}
 use native.Mathlib.Nat.{sub-zero}
 use native.Mathlib.Numerals.{add-one}
 use native.Mathlib.Omega.{arith}
@@ -11,7 +11,7 @@ use lib.Seq.{sets, take-suc-set}
 use Rattle.num.specs.Number.{leAt, leBytes}
 use Rattle.crc32.specs.V42.{crcOf}
 use Rattle.encoding.specs.Encoding.{magic, scanMagic}
-use Rattle.adding.proofs.Stores.{behind, behind-number}
+use Rattle.num.proofs.Stores.{behind, behind-number}
 use Rattle.written.specs.Joined.{joined, Field, fieldsBytes}
 use Rattle.written.specs.Joined.Field.{field}
 use Rattle.written.proofs.Stands.{even-length}
@@ -60,12 +60,6 @@ module _ (piece : ℕ → List ℕ) (w : ℕ) (sized : (k : ℕ) → length (pie
   pieces-more x₁ x₂ k place p e f =
       behind x₀ x₁ x₂ (joined piece k) (piece k) at place (ap (λ (n : ℕ). at + n) (even-length piece w k (λ i _. sized i)) ∙ p) e f
       ∙ ap (λ (n : ℕ). sets x₀ at (joined piece n)) (sym (add-one k))
-
-pub joined-same : (f g : ℕ → List ℕ) (n : ℕ) → ((k : ℕ) → k < n → f k ≡ g k) → joined f n ≡ joined g n
-unfolding joined
-joined-same f g zero h = refl
-joined-same f g (suc n) h =
-    ap (λ (l : List ℕ). l ++ f n) (joined-same f g n (λ k l. h k (omega arith))) ∙ ap (λ (l : List ℕ). joined g n ++ l) (h n (omega arith))
 
 -- ---- the end of a section
 

@@ -1,9 +1,8 @@
 -- From construction to the section.
 -- Assumes nothing.
-use mathlib.Core.Path.{_≡_, refl, sym, ap, _∙_, subst, subst⁻¹}
-use mathlib.Core.List.{List, [], _∷_, map}
-use Prim.Native.Nat.{ℕ, zero, suc, _+_, _*_, _<_, _≤_}
-use native.Mathlib.Nat.{not-suc-le-zero}
+use mathlib.Core.Path.{_≡_, sym, ap, _∙_, subst, subst⁻¹}
+use mathlib.Core.List.{List, [], map}
+use Prim.Native.Nat.{ℕ, _+_, _*_, _<_, _≤_}
 use native.Mathlib.Omega.{arith}
 use lib.ListN.{length, getD, take, length-map}
 use lib.Seq.{sets, getD-take}
@@ -11,6 +10,7 @@ use borrow.Author.Tests.{leb-true, ltb-true}
 use Rattle.num.specs.Number.{Bytes}
 use Rattle.num.specs.Answer.{Answer, given, refused}
 use Rattle.num.proofs.Choice.{both-true}
+use Rattle.num.proofs.Lists.{map-at}
 use Rattle.encoding.specs.declared.Encoding.{Encoding}
 use Rattle.encoding.specs.Encoding.{encodingOf, sectionLenOf}
 use Rattle.area.specs.Area.{keysIn}
@@ -34,11 +34,6 @@ use Rattle.writing.specs.Wrote.{wroteRead}
 use Rattle.writing.specs.Internal.{Asked, SectionAsked}
 use Rattle.writing.proofs.Questions.{asked-all}
 use Rattle.writing.proofs.Narrow.{arena-narrow}
-
-map-at : {A B : Type 0} (f : A → B) (l : List A) (i : ℕ) (d : A) (z : B) → i < length l → getD (map f l) i z ≡ f (getD l i d)
-map-at f [] i d z h = absurd (not-suc-le-zero h)
-map-at f (x ∷ l) zero d z h = refl
-map-at f (x ∷ l) (suc i) d z h = map-at f l i d z (omega arith)
 
 -- what construction leaves, by its answer
 module _ {r : Built} {seed : ℕ} (e : r ≡ Seed seed) where

@@ -6,12 +6,11 @@ use mathlib.Core.List.{List}
 use Prim.Native.Nat.{ℕ, zero, suc, _*_, _^_, _<_, _≤_}
 use native.Mathlib.Nat.{mul-le-mul}
 use native.Mathlib.Omega.{arith}
-use Rattle.num.specs.Choice.{if_then_else_}
-use Rattle.num.proofs.Choice.{both-true, if-case}
+use Rattle.num.proofs.Choice.{both-true}
 use Rattle.encoding.specs.declared.Totals.{Totals}
 use Rattle.encoding.specs.declared.Encoding.{Encoding}
 use Rattle.encoding.specs.Encoding.{Widths, keyHeaderLenOf, versionLenOf, encodingOf, arenaLenOf}
-use Rattle.encoding.proofs.Widths.{widths-le}
+use Rattle.encoding.proofs.Lengths.{key-header-le, version-le}
 use Rattle.area.specs.Area.{firstVersionAt, nextHead}
 use Rattle.builder.specs.declared.Builder.{Builder}
 use Rattle.builder.specs.Record.{sizeable}
@@ -30,23 +29,12 @@ unfolding versionsBefore headAt nextHead firstVersionAt
 versions-before area n zero h = omega arith
 versions-before area n (suc i) h = omega (arith, versions-before area n i (omega arith), many-in area n i h)
 
-header-most : (e : Encoding) → Widths e → keyHeaderLenOf e ≤ 20
-unfolding keyHeaderLenOf
-header-most e w = let l = widths-le e w in omega arith
-
-checksum-most : (e : Encoding) → (if e .checksum then 4 else 0) ≤ 4
-checksum-most e = if-case (λ n. n ≤ 4) (e .checksum) 4 0 (λ _. omega arith) (λ _. omega arith)
-
-version-most : (e : Encoding) → Widths e → versionLenOf e ≤ 24
-unfolding versionLenOf
-version-most e w = let l = widths-le e w in omega (arith, checksum-most e)
-
 arena-below : (e : Encoding) (t : Totals) → Widths e → t .keys ≤ 2 ^ 20 → t .«suffix_bytes» ≤ 2 ^ 30 → 25 * t .versions ≤ 2 ^ 30 → arenaLenOf e t < 2 ^ 32
 unfolding arenaLenOf
 arena-below e t w k s v =
-    let a : t .keys * keyHeaderLenOf e ≤ 2 ^ 20 * 20 = mul-le-mul k (header-most e w) in
+    let a : t .keys * keyHeaderLenOf e ≤ 2 ^ 20 * 20 = mul-le-mul k (key-header-le e w) in
     let m : t .versions ≤ 2 ^ 26 = omega arith in
-    let b : t .versions * versionLenOf e ≤ 2 ^ 26 * 24 = mul-le-mul m (version-most e w) in
+    let b : t .versions * versionLenOf e ≤ 2 ^ 26 * 24 = mul-le-mul m (version-le e w) in
     omega arith
 
 pub arena-narrow : (area : List ℕ) (b : Builder) → sizeable b ≡ true → readsBack area b ≡ true → AreaMeasured area (b .totals)

@@ -13,6 +13,7 @@ use Rattle.num.specs.Choice.{if_then_else_}
 use Rattle.num.specs.Number.{leBytes}
 use Rattle.num.proofs.Choice.{if-true}
 use Rattle.num.proofs.Number.{length-leBytes}
+use Rattle.num.proofs.Stores.{tailOf, tailPut, tail-all}
 use Rattle.crc32.specs.V42.{crcOf}
 use Rattle.encoding.specs.declared.Totals.{Totals}
 use Rattle.encoding.specs.declared.Encoding.{Encoding}
@@ -30,7 +31,7 @@ use Rattle.writer.specs.Write.{groupsIn}
 use Rattle.tables.specs.Internal.{Addressed}
 use Rattle.tables.proofs.Parts.{slots-listed}
 use Rattle.writing.specs.Internal.{ArenaLent, Noted, addressesIn, tablesBytes, TablesAsked, ScanAsked, SectionAsked}
-use Rattle.writing.proofs.Tails.{tailOf, tailPut, tail-all, section-sealed}
+use Rattle.writing.proofs.Tails.{section-sealed}
 use Rattle.writing.proofs.Tables.{slots-count, addresses-count, tables-long, addresses-lent, placement-kept, address-noted}
 
 module _ {area : List ℕ} {t : Totals} {e : Encoding} {prefix seed : ℕ} {hashes scratch output : List ℕ} (p : SectionAsked area t e prefix seed hashes scratch output) where

@@ -8,7 +8,7 @@ use native.Mathlib.Omega.{arith}
 use lib.ListN.{length, getD, take, drop, length-append, length-drop}
 use lib.Seq.{sets, length-sets}
 use borrow.Rule.Slice.PartMut.{same-len-mid}
-use Rattle.adding.proofs.Stores.{behind}
+use Rattle.num.proofs.Stores.{behind, tailOf, tailPut, tail-all, sets-tail}
 use Rattle.num.specs.Number.{leBytes}
 use Rattle.num.proofs.Number.{length-leBytes}
 use Rattle.num.proofs.Lists.{part-length, part-at, part-part}
@@ -23,7 +23,6 @@ use Rattle.writer.specs.Write.{groupsIn}
 use Rattle.measuring.proofs.Groups.{count-in}
 use Rattle.tables.specs.Internal.{listedSlot, listedSlots, listedScan, SlotsRoom}
 use Rattle.tables.proofs.Parts.{slot-size, scan-listed}
-use Rattle.writing.proofs.Tails.{tailOf, tailPut, tail-all, sets-tail}
 use Rattle.writing.specs.Internal.{Noted, addressesIn, tablesBytes, TablesAsked, ScanAsked}
 
 -- ---- lengths

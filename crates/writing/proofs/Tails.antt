@@ -1,44 +1,23 @@
 -- Stores into a tail that was lent on, and the parts of a section written at their places.
 -- Assumes nothing.
 use mathlib.Core.Path.{_≡_, sym, ap, _∙_}
-use mathlib.Core.List.{List, [], _∷_, _++_, append-nil, append-assoc}
+use mathlib.Core.List.{List, [], _∷_, _++_, append-assoc}
 use Prim.Native.Nat.{ℕ, _+_, _-_, _≤_}
 use native.Mathlib.Nat.{zero-add}
 use native.Mathlib.Omega.{arith}
-use lib.ListN.{length, getD, take, drop, drop-of-length-le, length-append, length-drop}
-use lib.Seq.{sets, sets-eq, drop-at, drop-drop, take-all, length-sets, length-take-le}
-use borrow.Rule.Slice.PartMut.{midOf, postOf, putMid, same-len-mid, take-put}
+use lib.ListN.{length, getD, take, drop, length-append}
+use lib.Seq.{sets, sets-eq, drop-at, length-sets, length-take-le}
+use borrow.Rule.Slice.PartMut.{postOf, same-len-mid, take-put}
 use Rattle.num.specs.Number.{leBytes}
 use Rattle.num.specs.Internal.{RegionHolds, Frame}
 use Rattle.num.proofs.Lists.{standing-at, standing-sets, part-sets-same}
 use Rattle.crc32.specs.V42.{crcOf}
-use Rattle.adding.proofs.Stores.{behind}
+use Rattle.num.proofs.Stores.{behind, tailOf, tailPut, tail-all, sets-tail}
 use Rattle.encoding.specs.declared.Encoding.{Encoding}
 use Rattle.keyrecords.specs.Internal.{ArenaAsked}
 use Rattle.writing.specs.Internal.{ArenaLent, Noted}
 
 -- ---- a tail
-
--- the elements from the a-th on, and the list with others in their place
-abbrev pub tailOf : ℕ → List ℕ → List ℕ
-tailOf a xs = midOf a (length xs - a) xs
-
-abbrev pub tailPut : ℕ → List ℕ → List ℕ → List ℕ
-tailPut a xs ys = putMid a (length xs - a) xs ys
-
-pub tail-all : (a : ℕ) (xs : List ℕ) → drop a xs ≡ tailOf a xs
-tail-all a xs = sym (take-all (length xs - a) (drop a xs) (omega (arith, length-drop a xs)))
-
--- a run of stores at the front of a tail is one at its place in the whole
-pub sets-tail : (xs ys w : List ℕ) (a : ℕ) → a + length w ≤ length xs → ys ≡ sets (tailOf a xs) 0 w → tailPut a xs ys ≡ sets xs a w
-sets-tail xs ys w a h e =
-    let d = drop a xs in
-    let n : length d ≡ length xs - a = length-drop a xs in
-    let l : length d ≤ length xs - a = omega arith in
-    let f : 0 + length w ≤ length d = omega arith in
-    let r : tailPut a xs (w ++ drop (0 + length w) (drop a xs)) ≡ sets xs a w =
-    simp (drop-of-length-le (drop a xs) l, append-nil, zero-add, drop-drop) (sym (sets-eq w xs a h ∙ append-assoc (take a xs) w (drop (a + length w) xs))) in
-    ap (tailPut a xs) (e ∙ ap (λ (t : List ℕ). sets t 0 w) (sym (tail-all a xs)) ∙ sets-eq w d 0 f) ∙ r
 
 -- numbers at the front of a tail are numbers at its place in the whole
 pub noted-tail : (xs ys : List ℕ) (a n : ℕ) (f : ℕ → ℕ) → a ≤ length xs → n ≤ length (drop a xs) → RegionHolds ys 0 0 n f → Frame n (tailOf a xs) ys → Noted a n f xs (tailPut a xs ys)

@@ -18,6 +18,12 @@ use Rattle.written.specs.Joined.{joined, Field, fieldsBytes}
 use Rattle.written.specs.Internal.{Stands, fieldsLen, FieldsFit, FieldsRead}
 use Rattle.written.specs.Joined.Field.{field}
 
+-- pieces that are the same are the same joined
+pub joined-same : {A : Type 0} (f g : ℕ → List A) (n : ℕ) → ((k : ℕ) → k < n → f k ≡ g k) → joined f n ≡ joined g n
+unfolding joined
+joined-same f g zero same = refl
+joined-same f g (suc n) same = ap₂ _++_ (joined-same f g n (λ k h. same k (omega arith))) (same n (omega arith))
+
 module _ {A : Type 0} where
   -- a list stands at its own start
   pub stands-whole : (l : List A) → Stands l 0 l

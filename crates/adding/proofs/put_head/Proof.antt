@@ -1,6 +1,6 @@
 use native.Mathlib.Omega.{arith}
 use Rattle.builder.specs.Offer.{headBytes}
-use Rattle.adding.proofs.Stores.{behind-number}
+use Rattle.num.proofs.Stores.{behind-number}
 use borrow.Author.Needs.{needs}
 use Rattle.adding.proofs.put_head.Statement.{statement}
 use Rattle.adding.proofs.put_head.Tie as tie

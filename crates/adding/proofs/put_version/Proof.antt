@@ -3,7 +3,7 @@ use Prim.Native.Nat.{ℕ, _+_}
 use native.Mathlib.Omega.{arith}
 use lib.Seq.{sets}
 use Rattle.num.specs.Number.{leBytes}
-use Rattle.adding.proofs.Stores.{behind-number}
+use Rattle.num.proofs.Stores.{behind-number}
 use borrow.Author.Needs.{needs}
 use Rattle.adding.proofs.put_version.Statement.{statement}
 use Rattle.adding.proofs.put_version.Tie as tie

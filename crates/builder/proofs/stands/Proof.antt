@@ -3,10 +3,10 @@ use Prim.Native.Nat.{ℕ, _^_}
 use native.Mathlib.Omega.{arith}
 use lib.Dec.{leb}
 use borrow.Author.Tests.{not-true, not-false, le-leb, lt-leb, eq-eqb, ne-eqb}
-use Rattle.num.proofs.Choice.{both-yes, both-no}
+use Rattle.num.proofs.Choice.{both-yes, both-no, either-yes, either-no}
 use Rattle.area.specs.Area.{areaVersions}
 use Rattle.builder.specs.Record.{standing}
-use Rattle.builder.proofs.Standing.{lies, either-no, either-yes}
+use Rattle.builder.proofs.Standing.{lies}
 use borrow.Author.Needs.{needs}
 use Rattle.builder.proofs.stands.Statement.{statement}
 use Rattle.builder.proofs.stands.Tie as tie

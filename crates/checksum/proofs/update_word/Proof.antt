@@ -1,7 +1,4 @@
-use mathlib.Core.Path.{ap₂, _∙_}
-use native.Mathlib.Omega.{arith}
-use lib.Bits.{bitXor}
-use Rattle.crc32.proofs.Table.{tables, entry-steps, eight-tables}
+use Rattle.crc32.proofs.Table.{entries, eight-entries}
 use borrow.Author.Needs.{needs}
 use Rattle.checksum.proofs.update_word.Statement.{statement}
 use Rattle.checksum.proofs.update_word.Tie as tie
@@ -31,18 +28,10 @@ entry-requires-8 : tie.Need-entry-requires-8
 entry-requires-8 c κs = search needs
 
 returns : tie.Need-returns
-unfolding tables
+unfolding entries
 returns c =
     let a = c .before .before .before .before .before .before .before .before in
-    ap₂ bitXor (c .before .before .before .entry5 .ensures ∙ entry-steps 7 _ (omega arith))
-    (ap₂ bitXor (c .before .before .entry6 .ensures ∙ entry-steps 6 _ (omega arith))
-    (ap₂ bitXor (c .before .entry7 .ensures ∙ entry-steps 5 _ (omega arith))
-    (ap₂ bitXor (c .entry8 .ensures ∙ entry-steps 4 _ (omega arith))
-    (ap₂ bitXor (c .before .before .before .before .before .before .before .entry .ensures ∙ entry-steps 3 _ (omega arith))
-    (ap₂ bitXor (c .before .before .before .before .before .before .entry2 .ensures ∙ entry-steps 2 _ (omega arith))
-    (ap₂ bitXor (c .before .before .before .before .before .entry3 .ensures ∙ entry-steps 1 _ (omega arith))
-    (c .before .before .before .before .entry4 .ensures ∙ entry-steps 0 _ (omega arith))))))))
-    ∙ eight-tables (a .args .state) (a .args .bytes) (a .fits .state .fits) (a .fits .bytes .fits)
+    cc (eight-entries (a .args .state) (a .args .bytes) (a .fits .state .fits) (a .fits .bytes .fits))
 
 pub update-word-spec : {M : Type 1} → statement M
 update-word-spec =

@@ -1,22 +1,20 @@
-use mathlib.Core.Path.{_≡_, refl, ap, _∙_}
-use Prim.Native.Nat.{ℕ, _<_, _≤_, _-_, _+_, _^_}
-use lib.ListN.{length, drop}
+use mathlib.Core.Path.{_∙_}
+use Prim.Native.Nat.{_≤_, _-_}
+use lib.ListN.{length}
 use native.Mathlib.Omega.{arith}
-use Rattle.num.specs.Number.{leBytes}
-use Rattle.crc32.specs.V42.{updateOf}
-use Rattle.crc32.proofs.Walk.{word-step}
+use Rattle.crc32.proofs.Walk.{Taken, none-taken, word-turn}
 use borrow.Author.Needs.{needs}
 use Rattle.crc32.proofs.update_with.Statement.{statement}
 use Rattle.crc32.proofs.update_with.Tie as tie
 
 abbrev Inv-loop : tie.InvT-loop
-Inv-loop table state «data» c₀ i₀ c i = (i ≤ length «data») × (c < 2 ^ 32) × (updateOf c (drop i «data») ≡ updateOf state «data»)
+Inv-loop table state «data» c₀ i₀ c i = (i ≤ length «data») × Taken «data» state 0 i c
 
 abbrev μ-loop : tie.MeasureT-loop
 μ-loop table state «data» c₀ i₀ c i = length «data» - i
 
 loop-holds : tie.Need-loop-holds Inv-loop μ-loop
-loop-holds c = (search needs, c .before .fits .state .fits, refl)
+loop-holds c = (search needs, none-taken (c .before .fits .state .fits))
 
 sub-loop : tie.Need-sub-loop Inv-loop μ-loop
 sub-loop c = search needs
@@ -36,20 +34,13 @@ loop-less c = search needs
 loop-again : tie.Need-loop-again Inv-loop μ-loop
 loop-again c =
     let l = c .before .before .before in
-    let s = l .before .before .args .«data» .now in
-    let i = l .loop .i in (
-      omega arith,
-      omega arith,
-      ap (λ (r : ℕ). updateOf r (drop (i + 8) s)) (c .update-word .ensures ∙ ap (λ (v : ℕ). updateOf (l .loop .c) (leBytes 8 v)) (c .before .u64-at .ensures))
-          ∙ word-step s i (l .loop .c) (λ k. l .before .shared-slice-known .given k .fits) (l .loop .inv .1) (omega arith)
-          ∙ l .loop .inv .2,
-    )
+    (omega arith, word-turn _ _ (λ k. l .before .shared-slice-known .given k .fits) (l .loop .inv .1) (omega arith) (c .before .u64-at .ensures) (c .update-word .ensures))
 
 update-rest-requires : tie.Need-update-rest-requires Inv-loop μ-loop
 update-rest-requires c κs = search needs
 
 returns : tie.Need-returns Inv-loop μ-loop
-returns c = c .update-rest .ensures ∙ c .before .before .loop .inv .2
+returns c = c .update-rest .ensures ∙ c .before .before .loop .inv .1 .left
 
 pub update-with-spec : {M : Type 1} → statement M
 update-with-spec =

@@ -5,8 +5,9 @@ use lib.ListN.{length, getD}
 use borrow.Author.Needs.{needs}
 use Rattle.pilots.specs.Internal.{Trying}
 use Rattle.point.specs.Hash.{positionOf}
+use Rattle.point.proofs.Slots.{position-lt}
 use Rattle.pilots.proofs.Scratch.{fits-kept}
-use Rattle.pilots.proofs.Candidates.{not-true, not-false, position-below, trying-indexed, trying-none, trying-turn, trying-no, trying-done, member-inside, member-key}
+use Rattle.pilots.proofs.Candidates.{not-true, not-false, trying-indexed, trying-none, trying-turn, trying-no, trying-done, member-inside, member-key}
 use Rattle.pilots.proofs.try_pilot.Statement.{statement}
 use Rattle.pilots.proofs.try_pilot.Tie as tie
 
@@ -45,7 +46,7 @@ try-member-requires c κs =
     let z = c .before .before .before .before .before .before .before .before .before .pre in
     let l = c .before .before .before .before .before .before .loop in
     let p = c .before .position in
-    (fits-kept (z .0) (l .inv .1 .keeps), rw (p .ensures) (position-below _ _ _ (z .0 .some-key)), omega (arith, z .1 .few), trying-indexed (l .inv .1) (z .0) (z .1) (c .before .before .before .before .before .loop-test .taken))
+    (fits-kept (z .0) (l .inv .1 .keeps), rw (p .ensures) (position-lt _ _ _ (z .0 .some-key)), omega (arith, z .1 .few), trying-indexed (l .inv .1) (z .0) (z .1) (c .before .before .before .before .before .loop-test .taken))
 
 same-length : tie.Need-same-length Inv-loop μ-loop
 same-length c = search needs

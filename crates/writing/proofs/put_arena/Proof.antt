@@ -1,9 +1,10 @@
 use native.Mathlib.Omega.{arith}
 use lib.ListN.{length-drop}
 use borrow.Author.Needs.{needs}
+use Rattle.num.proofs.Stores.{sets-tail}
 use Rattle.written.specs.Arena.{groupAddress, arenaWritten}
 use Rattle.writer.specs.Write.{groupsIn}
-use Rattle.writing.proofs.Tails.{arena-lent, sets-tail, noted-tail}
+use Rattle.writing.proofs.Tails.{arena-lent, noted-tail}
 use Rattle.writing.proofs.put_arena.Statement.{statement}
 use Rattle.writing.proofs.put_arena.Tie as tie
 
