@@ -22,8 +22,8 @@ use Rattle.locating.specs.Looks.{lookup, NoneWithin, Greatest, Answers, Looks}
 use Rattle.linking.specs.Linkers.{SameVersions, LinkSame, noneAlike, foundAlike}
 use Rattle.numbers.specs.Numbers.{recordNumbers, openedOf, answerNumbers}
 use Rattle.numbers.proofs.RecordNumbers.{record-read, record-is}
-use Rattle.kiban.specs.Written.{lookupOf, answerWritten}
-use Rattle.kiban.proofs.Numbers.{looked-up}
+use Rattle.looks.specs.Looked.{lookupOf, answerWritten}
+use Rattle.looks.proofs.Numbers.{looked-up}
 use Rattle.calls.specs.Calls.{place, Holding, blocksHeld, LookupCall, sixZeros, IsVersion, LookedUp, SameAnswers, bothNone, bothVersion, LinkedAlike}
 
 -- what is held, with a record

@@ -27,7 +27,7 @@ use Rattle.linking.specs.Linkers.{TwoLinkers}
 use Rattle.linking.proofs.TwoLinkers.{two-linkers}
 use Rattle.numbers.specs.Numbers.{recordNumbers}
 use Rattle.numbers.proofs.RecordNumbers.{record-stands}
-use Rattle.kiban.specs.Written.{recordWritten, packedRecordWritten, packedLenWritten}
+use Rattle.opens.specs.Written.{recordWritten, packedRecordWritten, packedLenWritten}
 use Rattle.numbered.specs.Numbers.{OpensNumbered, PacksNumbered}
 use Rattle.numbered.proofs.Numbers.{opens-numbered, packs-numbered}
 use Rattle.calls.specs.Calls.{Lent, opens, packs, OpenCall, PackCall, Linker, openedPlain, openedPacked, holding, AdmittedPacked, OpenCalls, LookupCalls, LinkerCalls, RecordPlaces, OutputLeft, OutputsLeft}

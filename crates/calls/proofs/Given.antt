@@ -12,7 +12,7 @@ use Rattle.locator.specs.Locator.{locatedNumber}
 use Rattle.point.specs.Hash.{hashOf}
 use Rattle.lookup.specs.Lookup.{hashRead, locateOf}
 use Rattle.numbers.specs.Numbers.{openedOf, isRecordNumbers}
-use Rattle.kiban.specs.Written.{lookupOf}
+use Rattle.looks.specs.Looked.{lookupOf}
 use Rattle.numbered.proofs.Numbers.{reads-not-24}
 use Rattle.calls.specs.Calls.{Holding, GivesRecord, RecordCalls}
 

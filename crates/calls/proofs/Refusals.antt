@@ -11,7 +11,8 @@ use Rattle.packing.specs.Packing.{PackedForm, packedRead, packedNumber, packedW
 use Rattle.locator.specs.declared.Located.{Located}
 use Rattle.locator.specs.declared.Located.the-variants.{Found, Missing, Refused}
 use Rattle.locator.specs.Locator.{locatedNumber}
-use Rattle.kiban.specs.Written.{recordWritten, packedRecordWritten, packedLenWritten, answerWritten}
+use Rattle.opens.specs.Written.{recordWritten, packedRecordWritten, packedLenWritten}
+use Rattle.looks.specs.Looked.{answerWritten}
 use Rattle.calls.specs.Calls.{packs, RefusalsWriteNothing}
 
 -- what is left, where the number is not 0

@@ -25,7 +25,8 @@ use Rattle.locating.specs.Store.{LinkerStore, Version}
 use Rattle.locating.specs.Looks.{NoneWithin, Greatest}
 use Rattle.linking.specs.Linkers.{SameVersions}
 use Rattle.numbers.specs.Numbers.{recordNumbers, openedOf}
-use Rattle.kiban.specs.Written.{recordWritten, packedRecordWritten, packedLenWritten, lookupOf, answerWritten}
+use Rattle.opens.specs.Written.{recordWritten, packedRecordWritten, packedLenWritten}
+use Rattle.looks.specs.Looked.{lookupOf, answerWritten}
 
 -- what a place holds
 abbrev pub place : List ℕ → ℕ → ℕ

@@ -12,16 +12,13 @@ ghost use Rattle.lookup.specs.Value.{valueNumber, valuePart};
 ghost use Rattle.writer.specs.Write.{writeOf, sectionWritten};
 ghost use Rattle.writing.specs.Wrote.{wroteRead, wroteNumber};
 ghost use Rattle.numbers.specs.BuilderNumbers.{builderIn};
-ghost use Rattle.kiban.specs.Written.{recordWritten, packedRecordWritten, packedLenWritten};
-ghost use Rattle.kiban.specs.Written.{lookupOf, answerWritten};
+ghost use Rattle.opens.specs.Written.{recordWritten, packedRecordWritten, packedLenWritten};
+ghost use Rattle.looks.specs.Looked.{lookupOf, answerWritten};
 ghost use Rattle.builds.specs.Built.{offerFrom, builderWritten, sizeWritten, sectionLenWritten};
 ghost use Rattle.blocks.specs.Blocks.{fillOf, filledRead, filledNumber, filledCount, filledPlaces, findOf, foundPlace};
 ghost use Rattle.spans.specs.Span.{pairsWritten, spannedRead, spannedNumber};
 ghost use Rattle.scans.specs.Spans.{spanOfNumbers, foundWritten};
 use blocks::BlockRecord;
-use header::HeaderRead;
-use locator::Located;
-use packing::PackedRead;
 
 // The CRC-32 of the bytes: the 32-bit frame check sequence of ITU-T V.42.
 #[no_mangle]
@@ -45,14 +42,7 @@ pub extern "C" fn kiban_open(
         × (now (out .exit) ≡ recordWritten (openOf (now (section .entry)) (now («data» .entry)) (now (blocks .entry)) (length (now (scratch .entry)))) (now (out .entry)))
         × (length (now (scratch .exit)) ≡ length (now (scratch .entry))) ⌝ }
 {
-    let found = opening::open(section, data, blocks, scratch);
-    match found {
-        HeaderRead::Accepted(o) => {
-            numbers::write_record(o, out);
-            0
-        }
-        HeaderRead::Refused(n) => n,
-    }
+    opens::open(section, data, blocks, scratch, out)
 }
 
 // Opens a section as kiban_open does, and writes its packed form, the packed record, and how many bytes the packed form has:
@@ -74,15 +64,7 @@ pub extern "C" fn kiban_open_packed(
         × (now (len .exit) ≡ packedLenWritten (openPackedOf (now (section .entry)) (now («data» .entry)) (now (blocks .entry)) (length (now (scratch .entry))) (length (now (output .entry)))) (now (len .entry)))
         × (length (now (scratch .exit)) ≡ length (now (scratch .entry))) ⌝ }
 {
-    let found = packing::open_packed(section, data, blocks, scratch, output);
-    match found {
-        PackedRead::Packed(o, n) => {
-            numbers::write_record(o, out);
-            *len = n as u64;
-            0
-        }
-        PackedRead::Refused(n) => n,
-    }
+    opens::open_packed(section, data, blocks, scratch, output, out, len)
 }
 
 // Looks a key up under a limit in an opened section, plain or packed, and writes the answer, six zeros for none. The result is 0, or the
@@ -98,24 +80,7 @@ pub extern "C" fn kiban_lookup(
     ensures { λ r. ⌜ (r ≡ locatedNumber (lookupOf (now (section .entry)) (now (numbers .entry)) (now (key .entry)) limit))
         × (now (answer .exit) ≡ answerWritten (lookupOf (now (section .entry)) (now (numbers .entry)) (now (key .entry)) limit) (now (answer .entry))) ⌝ }
 {
-    // The hash waits on itself; the tests of 24 go on meanwhile.
-    let h = point::hash(key, numbers[0]);
-    if !held::holds(section, numbers) {
-        return 24;
-    }
-    let o = numbers::read_record(numbers);
-    let found = lookup::locate(section, o, key, limit, h);
-    match found {
-        Located::Found(l) => {
-            numbers::write_answer(l, answer);
-            0
-        }
-        Located::Missing => {
-            numbers::write_missing(answer);
-            0
-        }
-        Located::Refused(n) => n,
-    }
+    looks::lookup(section, numbers, key, limit, answer)
 }
 
 // The values of `count` keys from key `first` on under a limit, in an opened plain section with a scan part: writes a pair of offset

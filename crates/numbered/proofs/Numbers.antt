@@ -52,7 +52,7 @@ use Rattle.writer.specs.Write.{sectionFor, writeOf}
 use Rattle.writing.specs.Wrote.{wroteRead, wroteNumber}
 use Rattle.numbers.specs.Numbers.{openedOf}
 use Rattle.numbers.specs.BuilderNumbers.{builderIn}
-use Rattle.kiban.specs.Written.{lookupOf}
+use Rattle.looks.specs.Looked.{lookupOf}
 use Rattle.numbered.specs.Numbers.{OwnNumber, openNumbers, packNumbers, lookupNumbers, valueNumbers, addNumbers, sizeNumbers, writeNumbers}
 use Rattle.numbered.specs.Numbers.{OpensNumbered, PacksNumbered, LooksNumbered, ValuesNumbered, AddsNumbered, SizesNumbered, WritesNumbered}
 

@@ -21,7 +21,7 @@ use Rattle.builder.specs.Add.{BuilderState, addOf, addedRead, addedNumber}
 use Rattle.writer.specs.Write.{writeOf}
 use Rattle.writing.specs.Wrote.{wroteRead, wroteNumber}
 use Rattle.numbers.specs.BuilderNumbers.{builderIn}
-use Rattle.kiban.specs.Written.{lookupOf}
+use Rattle.looks.specs.Looked.{lookupOf}
 
 -- 0, or one of an entry's own numbers
 unfoldable pub OwnNumber : List ℕ → ℕ → Type 0

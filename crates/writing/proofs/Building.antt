@@ -31,7 +31,8 @@ use Rattle.measuring.specs.Measured.{AreaMeasured, ReadBackMeasured}
 use Rattle.measuring.proofs.Measured.{read-back-measured}
 use Rattle.writing.specs.declared.Wrote.the-variants as wrote
 use Rattle.writing.specs.Wrote.{wroteRead}
-use Rattle.writing.specs.Internal.{Asked, SectionAsked}
+use Rattle.sections.specs.Internal.{SectionAsked}
+use Rattle.writing.specs.Internal.{Asked}
 use Rattle.writing.proofs.Questions.{asked-all}
 use Rattle.writing.proofs.Narrow.{arena-narrow}
 

@@ -1,0 +1,3 @@
+pub mod Tails
+pub mod Tables
+pub mod Section
