@@ -35,25 +35,26 @@ use Rattle.locating.specs.Store.{LinkerStore, Store, plainOpening, packedOpenin
 use Rattle.locating.specs.Looks.{lookup, Greatest, Answers, Looks, LooksExactly}
 use Rattle.locating.proofs.Plain.{plain-indexed}
 use Rattle.locating.proofs.Accepted.{store-indexed, lookup-exactly}
-use Rattle.spans.specs.Span.{Pair, unlessTombstone, scannable, spanOf}
-use Rattle.spans.proofs.Spans.{scanned}
-use Rattle.spanning.specs.Spans.{storeKeys, StoreKeysRise, keysSpanned, span, KeyGives, value, tombstone, none, SpanGives, noKey, nextKey, Scans, Spans, SpansExactly, locatedPairs, lookupPairs, SpanIsLookups}
+use Rattle.spans.specs.Span.{Pair, scannable, spanOf}
+use Rattle.scans.proofs.Asked.{scanned}
+use Rattle.spanning.specs.Spans.{storeKeys, StoreKeysRise, keysSpanned, span, KeyGives, value, tombstone, none, SpanGives, noKey, nextKey, Scans, Spans, SpansExactly, pairOf, locatedPairs, lookupPairs, SpanIsLookups}
 use Rattle.spanning.proofs.Keys.{arenaKeys, keys-length, keys-at, keys-part, keys-in}
 use Rattle.spanning.proofs.Chain.{scanned-found}
+use Rattle.spanning.proofs.Places.{found-lies, record-one}
 
 -- ---- what the lookups of some keys find is what those keys give
 
 module _ (t : LinkerStore) (st : Store t) (limit : ℕ) where
-  found-gives : (key : List ℕ) (v : Version) (l : ValueLocator) → Greatest t key limit v → Answers t v l → (k : Kind) → l .kind ≡ k
-      → KeyGives t limit key (unlessTombstone k (record { offset = l .offset; len = l .len }))
-  unfolding unlessTombstone
-  found-gives key v l g a Put e = value v _ g (sym (a .kind) ∙ e) (record { len = a .len; inside = a .inside; value = a .value })
-  found-gives key v l g a Tombstone e = tombstone v g (sym (a .kind) ∙ e)
+  found-gives : (key : List ℕ) (v : Version) (l : ValueLocator) → lookup t key limit ≡ Found l → Greatest t key limit v → Answers t v l
+      → (k : Kind) → l .kind ≡ k → KeyGives t limit key (pairOf k (record { offset = l .offset; len = l .len }))
+  unfolding pairOf
+  found-gives key v l f g a Put e = value v _ g (sym (a .kind) ∙ e) (found-lies t (store-indexed t st) key limit v l f g a)
+  found-gives key v l f g a Tombstone e = tombstone v g (sym (a .kind) ∙ e)
 
   key-gives : (key : List ℕ) → Looks t key limit → (r : Located) → lookup t key limit ≡ r → KeyGives t limit key (locatedPairs r)
   unfolding locatedPairs
   key-gives key p Missing e = none (p .none .0 e)
-  key-gives key p (Found l) e = let f = p .found l e in found-gives key (f .0) l (f .1) (f .2) (l .kind) refl
+  key-gives key p (Found l) e = let f = p .found l e in found-gives key (f .0) l e (f .1) (f .2) (l .kind) refl
   key-gives key p (Refused n) e = absurd (p .never n e)
 
   lookups-give : (keys : List (List ℕ)) → SpanGives t limit keys (lookupPairs t limit keys)
@@ -130,7 +131,7 @@ module _ (t : LinkerStore) (a : Arena t) where
 -- in an accepted store the keys of the blocks rise, and are as many as the record says
 pub store-keys-rise : StoreKeysRise
 unfolding StoreKeysRise
-store-keys-rise t st = let a = arena t st in record { count = keys-count t a; rising = keys-rising t a; held = key-held t a }
+store-keys-rise t st = let a = arena t st in record { count = keys-count t a; rising = keys-rising t a; held = key-held t a; one = record-one t (store-indexed t st) }
 
 -- ---- the questions of a span
 

@@ -9,26 +9,25 @@ use lib.ListN.{length, take, drop, length-append, length-take}
 use Rattle.num.specs.Answer.{Answer, given, refused}
 use Rattle.num.specs.Number.{Bytes}
 use Rattle.num.proofs.Choice.{if-case}
-use Rattle.num.proofs.Lists.{part-sets-same, drop-sets-behind}
 use Rattle.header.specs.declared.Opened.{Opened}
 use Rattle.opened.specs.Opened.{isRecord}
-use Rattle.locating.specs.Store.{LinkerStore}
+use Rattle.locating.specs.Store.{LinkerStore, Version}
 use Rattle.locating.proofs.Accepted.{store-indexed}
 use Rattle.numbers.specs.Numbers.{recordNumbers, openedOf, isRecordNumbers}
 use Rattle.numbers.proofs.RecordNumbers.{record-read, record-is}
 use Rattle.numbered.specs.Numbers.{OwnNumber}
-use Rattle.spans.specs.Span.{Pair, scannable, spanOf, valuesFrom, pairNumbers, pairsWritten, spannedRead, spannedNumber}
-use Rattle.spans.proofs.Keys.{numbers-length}
-use Rattle.kiban.specs.Spans.{spanOfNumbers, foundWritten}
-use Rattle.kiban.proofs.Spans.{spanned-over}
+use Rattle.spans.specs.Span.{Pair, scannable, scanAddress, spanOf, valuesFrom, pairsWritten, spannedRead, spannedNumber}
+use Rattle.scans.specs.Spans.{spanOfNumbers, foundWritten}
+use Rattle.scans.proofs.Numbers.{spanned-over}
 use Rattle.calls.specs.Calls.{place, Holding, holding, blocksHeld, GivesRecord}
 use Rattle.calls.proofs.Answers.{storeHeld, HoldsStore, held-none, held-greatest}
 use Rattle.calls.proofs.Calls.{linker-holds}
 use Rattle.calls.proofs.Given.{passed}
-use Rattle.spanning.specs.Spans.{storeKeys, StoreKeysRise, keysSpanned, span, KeyGives, value, tombstone, none, SpanGives, noKey, nextKey, Scans, Spans, SpansExactly}
-use Rattle.spanning.specs.Calls.{spanned, SpanCall, spanNumbers, SpansNumbered, NumbersScan, SpanAnswer, SpanAsked, PairsLeft, SpanGiven, SpanCalls}
-use Rattle.spanning.proofs.Accepted.{store-keys-rise, yes-scans, spans-exactly}
-use Rattle.spanning.proofs.Asked.{read-number, scan-asked, span-asked}
+use Rattle.spanning.specs.Spans.{storeKeys, StoreKeysRise, keysSpanned, span, ValueLies, KeyGives, value, tombstone, none, SpanGives, noKey, nextKey, Scans, Spans, SpansExactly, lookupPairs, SpanIsLookups}
+use Rattle.spanning.specs.Calls.{spanned, SpanCall, spanNumbers, SpansNumbered, NumbersScan, Passes, SpanAnswer, SpanAsked, PairsLeft, LookupsOf, answersPairs, SpanGiven, SpanCalls}
+use Rattle.spanning.proofs.Accepted.{store-keys-rise, yes-scans, spans-exactly, span-is-lookups}
+use Rattle.spanning.proofs.Lookups.{answers-few, lookups-same}
+use Rattle.spanning.proofs.Asked.{read-number, scan-asked, pairs-left, span-asked}
 
 -- ---- every call
 
@@ -41,12 +40,14 @@ one-of : (n : ℕ) → List·Memᴰ n spanNumbers → Own (refused n)
 unfolding Own OwnNumber spannedNumber spannedRead
 one-of n m = inr m
 
-walk-own : (n : ℕ) (s : List ℕ) (o : Opened) (limit at : ℕ) → Own (valuesFrom n s o limit at)
+walk-own : (s : List ℕ) (o : Opened) (first count limit : ℕ) → Own (valuesFrom count s o limit (scanAddress s o first))
 unfolding Own OwnNumber
-walk-own n s o limit at = go (read-number n s o limit at)
+walk-own s o first count limit = go (read-number s o first count limit)
   where
-    go : (spannedNumber (spannedRead (valuesFrom n s o limit at)) ≡ 0) ⊎ (spannedNumber (spannedRead (valuesFrom n s o limit at)) ≡ 25)
-        → Own (valuesFrom n s o limit at)
+    number : ℕ
+    number = spannedNumber (spannedRead (valuesFrom count s o limit (scanAddress s o first)))
+
+    go : (number ≡ 0) ⊎ (number ≡ 25) → OwnNumber spanNumbers number
     go (inl e) = inl e
     go (inr e) = inr (List·Memᴰ·tail (List·Memᴰ·head e))
 
@@ -58,7 +59,7 @@ span-own s numbers first count limit places =
     (λ _. if-case Own _ _ _
     (λ _. if-case Own _ _ _
     (λ _. if-case Own _ _ _
-    (λ _. walk-own count s _ limit _)
+    (λ _. walk-own s _ first count limit)
     (λ _. one-of 29 (List·Memᴰ·tail (List·Memᴰ·tail (List·Memᴰ·tail (List·Memᴰ·tail (List·Memᴰ·head refl)))))))
     (λ _. one-of 28 (List·Memᴰ·tail (List·Memᴰ·tail (List·Memᴰ·tail (List·Memᴰ·head refl))))))
     (λ _. one-of 27 (List·Memᴰ·tail (List·Memᴰ·tail (List·Memᴰ·head refl)))))
@@ -84,9 +85,23 @@ spans-numbered h first count limit c =
 -- ---- the versions and keys, read off data and list alone
 
 module _ (h : Holding) (o : Opened) (limit : ℕ) where
+  lies : (v : Version) (p : Pair) → ValueLies (storeHeld h o) v p → ValueLies (blocksHeld h) v p
+  unfolding storeHeld blocksHeld
+  lies v p l =
+      record {
+        entry = l .entry;
+        listed = l .listed;
+        version = l .version;
+        offset = l .offset;
+        size = l .size;
+        len = l .len;
+        inside = l .inside;
+        value = l .value;
+      }
+
   held-key : (key : List ℕ) (ps : List Pair) → KeyGives (storeHeld h o) limit key ps → KeyGives (blocksHeld h) limit key ps
   unfolding storeHeld blocksHeld
-  held-key key ps (value v p g k l) = value v p (held-greatest h o key limit v g) k (record { len = l .len; inside = l .inside; value = l .value })
+  held-key key ps (value v p g k l) = value v p (held-greatest h o key limit v g) k (lies v p l)
   held-key key ps (tombstone v g k) = tombstone v (held-greatest h o key limit v g) k
   held-key key ps (none n) = none (held-none h o key limit n)
 
@@ -146,30 +161,6 @@ module _ (h : Holding) (o : Opened) (x : HoldsStore h o) where
     unfolding SpansExactly storeHeld
     spans = spans-exactly (storeHeld h o) (x .store) b first count limit (length (c .before))
 
-    module _ (a : Answer (List Pair)) (e : span (storeHeld h o) first count limit (length (c .before)) ≡ a) where
-      call-result : c .result ≡ spannedNumber (spannedRead a)
-      call-result = c .returns ∙ ap (λ (r : Answer (List Pair)). spannedNumber (spannedRead r)) (call-spans ∙ e)
-
-      call-after : c .after ≡ pairsWritten a (c .before)
-      call-after = c .leaves ∙ ap (λ (r : Answer (List Pair)). pairsWritten r (c .before)) (call-spans ∙ e)
-
-      call-found : c .found-after ≡ foundWritten a (c .found)
-      call-found = c .leaves-found ∙ ap (λ (r : Answer (List Pair)). foundWritten r (c .found)) (call-spans ∙ e)
-
-    pairs-left : (ps : List Pair) → span (storeHeld h o) first count limit (length (c .before)) ≡ given ps → 2 * length ps ≤ length (c .before)
-        → PairsLeft h first count limit c ps
-    unfolding pairsWritten foundWritten
-    pairs-left ps e l =
-        let n = numbers-length ps in
-        record {
-          found = call-found (given ps) e;
-          pairs =
-              ap (λ (i : ℕ). take i (c .after)) (sym n)
-              ∙ ap (take (length (pairNumbers ps))) (call-after (given ps) e)
-              ∙ part-sets-same (pairNumbers ps) (c .before) 0 (omega arith);
-          behind = ap (drop (2 * length ps)) (call-after (given ps) e) ∙ drop-sets-behind (pairNumbers ps) (c .before) 0 (2 * length ps) (omega arith);
-        }
-
     asked : SpanAnswer h first count limit c
     unfolding SpanAsked
     asked = span-asked h first count limit c
@@ -184,35 +175,50 @@ module _ (h : Holding) (o : Opened) (x : HoldsStore h o) where
         let f = held-span h o limit _ (g .0) (g .2) in
         let m = span-few (blocksHeld h) limit _ (g .0) f in
         let t = length-take count (drop first (storeKeys (storeHeld h o))) in (
-          call-result (given (g .0)) (g .1),
+          c .returns ∙ ap (λ (r : Answer (List Pair)). spannedNumber (spannedRead r)) (call-spans ∙ g .1),
           (
             g .0,
             subst (λ (keys : List (List ℕ)). SpanGives (blocksHeld h) limit (take count (drop first keys)) (g .0)) (held-keys h o limit) f,
-            pairs-left (g .0) (g .1) (omega arith),
+            pairs-left h first count limit c (g .0) (call-spans ∙ g .1) (omega arith),
           ),
         )
 
-    -- 0 or 25 is the result only where they are
-    reads : (c .result ≡ 0) ⊎ (c .result ≡ 25)
+    -- as many keys as the record says
+    passes : Passes h first count (length (c .before))
         → NumbersScan (h .numbers) × (first + count ≤ length (storeKeys (blocksHeld h))) × (2 * count ≤ length (c .before))
-    reads i = let q = asked .reads .0 i in let k = q .2 in (q .1, omega (arith, keys-held), q .3)
+    passes q = let k = q .keys in (q .scans, omega (arith, keys-held), q .room)
+
+    -- the pairs of lookups of the keys spanned
+    looked : NumbersScan (h .numbers) → first + count ≤ length (storeKeys (blocksHeld h)) → 2 * count ≤ length (c .before)
+        → (calls : LookupsOf h limit (keysSpanned (blocksHeld h) first count)) → PairsLeft h first count limit c (answersPairs calls)
+    unfolding SpanIsLookups keysSpanned storeHeld
+    looked n k l calls =
+        let keys = keysSpanned (blocksHeld h) first count in
+        let e = lookups-same h o x limit keys calls in
+        let f = ap (λ (ks : List (List ℕ)). lookupPairs (storeHeld h o) limit (take count (drop first ks))) (held-keys h o limit) in
+        let g = span-is-lookups (storeHeld h o) (x .store) b (numbers-scans n) first count limit (length (c .before))
+        (omega (arith, ap length (held-keys h o limit))) l in
+        let m = answers-few calls in
+        let t = length-take count (drop first (storeKeys (blocksHeld h))) in
+        pairs-left h first count limit c (answersPairs calls) (call-spans ∙ g ∙ ap given (f ∙ sym e)) (omega arith)
 
     call-spanned : SpanGiven h first count limit c
     call-spanned =
         record {
-          zero = (λ z. reads (inl z), λ q. gives (q .0) (q .1) (q .2) .0);
-          gives = λ z. let q = reads (inl z) in gives (q .0) (q .1) (q .2) .1;
+          zero = (λ z. passes (asked .zero .0 z .0), λ q. gives (q .0) (q .1) (q .2) .0);
+          gives = λ z. let q = passes (asked .zero .0 z .0) in gives (q .0) (q .1) (q .2) .1;
+          lookups = λ z. let q = passes (asked .zero .0 z .0) in looked (q .0) (q .1) (q .2);
           refused-27 = (λ e. asked .refused-27 .0 e .1, λ n. asked .refused-27 .1 (gives-record, n));
           refused-28 = (
-            λ e. let q = asked .refused-28 .0 e in let k = q .2 in (q .1, omega (arith, keys-held)),
-            λ q. let k = q .1 in asked .refused-28 .1 (gives-record, q .0, omega (arith, keys-held)),
+            λ e. let q = asked .refused-28 .0 e in let k = q .2 in (q .1, omega (arith, k, keys-held)),
+            λ q. let k = q .1 in asked .refused-28 .1 (gives-record, q .0, λ l. omega (arith, keys-held)),
           );
           refused-29 = (
-            λ e. let q = asked .refused-29 .0 e in let k = q .2 in (q .1, omega (arith, keys-held), q .3),
-            λ q. let k = q .1 in asked .refused-29 .1 (gives-record, q .0, omega (arith, keys-held), q .2),
+            λ e. let q = asked .refused-29 .0 e in let k = q .2 in let r = q .3 in (q .1, omega (arith, keys-held), omega (arith, r)),
+            λ q. let k = q .1 in let l = q .2 in asked .refused-29 .1 (gives-record, q .0, omega (arith, keys-held), λ r. omega arith),
           );
           never-24 = λ e. asked .refused-24 .0 e gives-record;
-          never-25 = λ e. let q = reads (inr e) in let z = gives (q .0) (q .1) (q .2) .0 in omega arith;
+          never-25 = λ e. let q = passes (asked .refused-25 .0 e .0) in let z = gives (q .0) (q .1) (q .2) .0 in omega arith;
         }
 
 -- a span by a linker gives the values of the keys that it spans

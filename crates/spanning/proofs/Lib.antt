@@ -1,7 +1,10 @@
 pub mod Keys
 pub mod Values
 pub mod Chain
+pub mod Places
+pub mod Judged
 pub mod Accepted
 pub mod Asked
+pub mod Lookups
 pub mod Calls
 pub mod Examples

@@ -11,6 +11,8 @@ use lib.ListN.{length}
 use borrow.Author.Tests.{leb-true, leb-false, le-leb}
 use Rattle.num.specs.Answer.{given}
 use Rattle.num.proofs.Choice.{if-true}
+use Rattle.sstable.specs.declared.Kind.{Kind}
+use Rattle.sstable.specs.declared.Kind.the-variants.{Put, Tombstone}
 use Rattle.block.specs.Walk.{Entry}
 use Rattle.encoding.specs.Encoding.{keyHeaderLenOf, versionLenOf}
 use Rattle.header.specs.declared.Opened.{Opened}
@@ -25,14 +27,19 @@ use Rattle.locator.proofs.Versions as located
 use Rattle.lookup.specs.Lookup.{locateOf}
 use Rattle.locating.proofs.Indexed.{Indexed}
 use Rattle.locating.proofs.Reading.{located-own}
-use Rattle.spans.specs.Span.{valueEnd, valueAt, valueFrom, versionsStart, keyValue}
+use Rattle.spans.specs.Span.{Pair, valueEnd, unlessTombstone, valueAt, valueFrom, versionsStart, keyValue}
 use Rattle.spans.proofs.Values.{value-within, value-above}
-use Rattle.spanning.specs.Spans.{locatedPairs}
+use Rattle.spanning.specs.Spans.{pairOf, locatedPairs}
+
+kind-pairs : (k : Kind) (p : Pair) → unlessTombstone k p ≡ pairOf k p
+unfolding unlessTombstone pairOf
+kind-pairs Put p = refl
+kind-pairs Tombstone p = refl
 
 -- the value at a place is that of the version at the place
 value-located : (s : List ℕ) (o : Opened) (pos : ℕ) → valueAt s o pos ≡ locatedPairs (Found (locatorAt s o pos))
 unfolding valueAt locatedPairs locatorAt
-value-located s o pos = refl
+value-located s o pos = kind-pairs _ _
 
 module _ (s : List ℕ) (o : Opened) (pos limit : ℕ) (r : pos + versionLenOf (o .encoding) ≤ length s) (b : storedSeq s o pos < 2 ^ 64) where
   -- a version within the limit is met by a span as by a lookup

@@ -8,15 +8,16 @@ use lib.ListN.{length, getD, take, drop}
 use Rattle.num.specs.Answer.{Answer, given, refused}
 use Rattle.num.specs.Number.{Bytes}
 use Rattle.num.specs.Order.{equalBytes, lessThan}
+use Rattle.sstable.specs.declared.Kind.{Kind}
 use Rattle.sstable.specs.declared.Kind.the-variants.{Put, Tombstone}
 use Rattle.block.specs.Walk.{Entry}
 use Rattle.admission.specs.Blocks.{storeEntries}
 use Rattle.locator.specs.declared.Located.{Located}
 use Rattle.locator.specs.declared.Located.the-variants.{Found, Missing, Refused}
 use Rattle.lookup.specs.Value.{valueNumber, valuePart}
-use Rattle.locating.specs.Store.{LinkerStore, Store, Version, Holds}
+use Rattle.locating.specs.Store.{LinkerStore, Store, Version, versionIn, Holds}
 use Rattle.locating.specs.Looks.{lookup, NoneWithin, Greatest}
-use Rattle.spans.specs.Span.{Pair, unlessTombstone, spanOf}
+use Rattle.spans.specs.Span.{Pair, spanOf}
 
 -- ---- the keys of a store
 
@@ -34,11 +35,13 @@ keysListed (e ∷ es) = e .key ∷ keysBehind (e .key) es
 unfoldable pub storeKeys : LinkerStore → List (List ℕ)
 storeKeys t = keysListed (storeEntries (t .backing) (t .blocks))
 
--- in an accepted store they are n, in rising order, and every version has one of them
+-- in an accepted store they are n, in rising order, and every version has one of them; a key and a sequence name one record
 pub record KeysRise (t : LinkerStore) : Type 0 where
   pub count : length (storeKeys t) ≡ t .opened .count
   pub rising : (i : ℕ) → suc i < length (storeKeys t) → lessThan (getD (storeKeys t) i []) (getD (storeKeys t) (suc i) []) ≡ true
   pub held : (v : Version) → Holds t v → List·Memᴰ (v .key) (storeKeys t)
+  pub one : (a b : Entry) → List·Memᴰ a (storeEntries (t .backing) (t .blocks)) → List·Memᴰ b (storeEntries (t .backing) (t .blocks))
+      → a .key ≡ b .key → a .seq ≡ b .seq → a ≡ b
 
 unfoldable pub StoreKeysRise : Type 0
 StoreKeysRise = (t : LinkerStore) → Store t → KeysRise t
@@ -53,8 +56,14 @@ keysSpanned t first count = take count (drop first (storeKeys t))
 unfoldable pub span : LinkerStore → ℕ → ℕ → ℕ → ℕ → Answer (List Pair)
 span t first count limit places = spanOf (t .bytes) (t .opened) first count limit places
 
--- a pair is where a version's value lies in the data; 26 does not occur
+-- a pair is where a version's value lies in the data: the place and length that the blocks' record of this version has; 26 does not occur
 pub record ValueLies (t : LinkerStore) (v : Version) (p : Pair) : Type 0 where
+  pub entry : Entry
+  pub listed : List·Memᴰ entry (storeEntries (t .backing) (t .blocks))
+  pub version : versionIn (t .backing) entry ≡ v
+  pub offset : p .offset ≡ entry .place
+  pub size : p .len ≡ entry .size
+  -- so the value entry gives the value's bytes
   pub len : p .len ≡ length (v .value)
   pub inside : valueNumber (t .backing) (p .offset) (p .len) ≡ 0
   pub value : valuePart (t .backing) (p .offset) (p .len) ≡ v .value
@@ -95,9 +104,14 @@ SpansExactly = (t : LinkerStore) → Store t → Bytes (t .bytes) → (first cou
 
 -- ---- spans and lookups
 
+-- a tombstone has no pair
+unfoldable pub pairOf : Kind → Pair → List Pair
+pairOf Put p = p ∷ []
+pairOf Tombstone p = []
+
 -- the pairs of what a lookup answers
 unfoldable pub locatedPairs : Located → List Pair
-locatedPairs (Found l) = unlessTombstone (l .kind) (record { offset = l .offset; len = l .len })
+locatedPairs (Found l) = pairOf (l .kind) (record { offset = l .offset; len = l .len })
 locatedPairs Missing = []
 locatedPairs (Refused n) = []
 
@@ -114,5 +128,5 @@ SpanIsLookups =
 
 -- for proofs alone: `unfolding spans-defs` opens the definitions of this file
 unfoldable pub spans-defs : ℕ
-unfolding keysBehind keysListed storeKeys keysSpanned span locatedPairs lookupPairs
+unfolding keysBehind keysListed storeKeys keysSpanned span pairOf locatedPairs lookupPairs
 spans-defs = 0
