@@ -45,7 +45,11 @@ fn newest(section: &[u8], o: Opened, count: usize, from: usize, limit: u64) -> V
             return VersionRead::Refused;
         }
         if o.min_seq + stored <= limit {
-            return if pos + end <= section.len() { VersionRead::At(pos) } else { VersionRead::Refused };
+            return if pos + end <= section.len() {
+                VersionRead::At(pos)
+            } else {
+                VersionRead::Refused
+            };
         }
         pos += size;
         left -= 1;
@@ -173,7 +177,13 @@ fn put_values(
 }
 
 // The value of the key whose record stands at an address: one key is read before its pair is written.
-pub fn key_value(section: &[u8], o: Opened, address: usize, limit: u64, pairs: &mut [u64]) -> Spanned
+pub fn key_value(
+    section: &[u8],
+    o: Opened,
+    address: usize,
+    limit: u64,
+    pairs: &mut [u64],
+) -> Spanned
     requires { ⌜ Spannable o ⌝ }
     requires { ⌜ address < 2 ^ 32 ⌝ }
     requires { ⌜ 2 ≤ length (now pairs) ⌝ }
