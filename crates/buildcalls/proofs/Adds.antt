@@ -79,9 +79,9 @@ module _ (c : AddCall) {m : Memory} (left : AsLeft m (c .lent .numbers) (c .lent
     unfolding leftBy takenWith builderNumbers builderWritten addedArea
     add-refused n q =
         let some : c .result ≡ 0 → ⊥ = λ z. let s = added c z in not-both n (s .0) (sym q ∙ s .1) in
-        let numbers : c .numbers ≡ builderNumbers (run .builder)
+        let numbers : c .numbers-after ≡ builderNumbers (run .builder)
         = c .leaves ∙ ap (λ (a : Answer BuilderState). builderWritten a (c .lent .numbers)) q ∙ left .same ∙ v .numbers in
-        let area : c .area ≡ run .used ++ left .rest
+        let area : c .area-after ≡ run .used ++ left .rest
         = c .leaves-area ∙ ap (λ (a : Answer BuilderState). addedArea a (c .lent .area)) q ∙ same-area v left in
         record {
           numbers = numbers;

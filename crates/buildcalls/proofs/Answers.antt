@@ -42,7 +42,7 @@ added c z =
     let l = c .lent in
     adds-numbered (l .area) (l .numbers) (offerFrom (l .tombstone) (l .key) (l .value) (l .seq) (l .new-key) (l .offset)) .zero .0 (sym (c .returns) ∙ z)
 
-pub added-left : (c : AddCall) (s : BuilderState) → adds (c .lent) ≡ given s → (c .numbers ≡ builderNumbers (s .builder)) × (c .area ≡ s .area)
+pub added-left : (c : AddCall) (s : BuilderState) → adds (c .lent) ≡ given s → (c .numbers-after ≡ builderNumbers (s .builder)) × (c .area-after ≡ s .area)
 unfolding builderWritten addedArea
 added-left c s q = (
   c .leaves ∙ ap (λ (a : Answer BuilderState). builderWritten a (c .lent .numbers)) q ∙ builder-stands (c .lent .numbers) (s .builder) (c .lent .sixteen),
@@ -58,7 +58,7 @@ wrote c z =
     let l = c .lent in
     writes-numbered (l .area) (l .numbers) (l .prefix) (l .room64) (l .room32) (length (l .output)) .zero .0 (sym (c .returns) ∙ z)
 
-pub wrote-left : (c : WriteCall) (s : List ℕ) → writes (c .lent) ≡ given s → (c .output ≡ sets (c .lent .output) 0 s) × (c .len ≡ length s)
+pub wrote-left : (c : WriteCall) (s : List ℕ) → writes (c .lent) ≡ given s → (c .output-after ≡ sets (c .lent .output) 0 s) × (c .len-after ≡ length s)
 unfolding sectionWritten sectionLenWritten
 wrote-left c s q = (
   c .leaves-output ∙ ap (λ (a : Answer (List ℕ)). sectionWritten a (c .lent .output)) q,

@@ -82,7 +82,7 @@ module _ (area : List ℕ) (b : Builder) (e : Offer) (p : Passed area b e) where
       ∙ drop-sets-behind count area (b .«last_key» + 4) used (omega arith))
 
 add-behind : (c : AddCall) (s : BuilderState) → adds (c .lent) ≡ given s → c .result ≡ 0
-    → (place (c .numbers) 3 ≤ length (c .lent .area)) × (drop (place (c .numbers) 3) (c .area) ≡ drop (place (c .numbers) 3) (c .lent .area))
+    → (place (c .numbers-after) 3 ≤ length (c .lent .area)) × (drop (place (c .numbers-after) 3) (c .area-after) ≡ drop (place (c .numbers-after) 3) (c .lent .area))
 unfolding builderNumbers
 add-behind c s q z =
     let l = c .lent in
@@ -90,7 +90,7 @@ add-behind c s q z =
     let taken = accepted (l .area) b (offered l) s (sym (same-offer l) ∙ q) in
     let p = taken .0 .passed in
     let left = added-left c s q in
-    let used : place (c .numbers) 3 ≡ s .builder .used = ap (λ (n : List ℕ). place n 3) (left .0) in
+    let used : place (c .numbers-after) 3 ≡ s .builder .used = ap (λ (n : List ℕ). place n 3) (left .0) in
     let behind =
     subst⁻¹ (λ (t : BuilderState). (t .builder .used ≤ length (l .area)) × (drop (t .builder .used) (t .area) ≡ drop (t .builder .used) (l .area))) (taken .1)
     (area-inside (l .area) b (offered l) p, area-behind (l .area) b (offered l) p) in
@@ -115,14 +115,14 @@ section-inside area b prefix room s bytes f =
     omega arith
 
 write-behind : (c : WriteCall) (s : List ℕ) → Bytes (c .lent .area) → writes (c .lent) ≡ given s
-    → (c .len ≤ length (c .lent .output)) × (drop (c .len) (c .output) ≡ drop (c .len) (c .lent .output))
+    → (c .len-after ≤ length (c .lent .output)) × (drop (c .len-after) (c .output-after) ≡ drop (c .len-after) (c .lent .output))
 write-behind c s bytes q =
     let l = c .lent in
     let f = fits (l .area) (builderIn (l .numbers)) (l .prefix) (l .room64) (l .room32) (length (l .output)) s q in
     let h = section-inside (l .area) (builderIn (l .numbers)) (l .prefix) (length (l .output)) s bytes f in
     let w = wrote-left c s q in
     let n = w .1 in
-    (omega arith, ap (drop (c .len)) (w .0) ∙ drop-sets-behind s (l .output) 0 (c .len) (omega arith))
+    (omega arith, ap (drop (c .len-after)) (w .0) ∙ drop-sets-behind s (l .output) 0 (c .len-after) (omega arith))
 
 pub behind-kept : BehindKept
 behind-kept =

@@ -60,11 +60,11 @@ adds lent =
 pub record AddCall : Type 0 where
   pub lent : AddLent
   pub result : ℕ
-  pub area : List ℕ
-  pub numbers : List ℕ
+  pub area-after : List ℕ
+  pub numbers-after : List ℕ
   pub returns : result ≡ addedNumber (addedRead (adds lent))
-  pub leaves-area : area ≡ addedArea (adds lent) (lent .area)
-  pub leaves : numbers ≡ builderWritten (adds lent) (lent .numbers)
+  pub leaves-area : area-after ≡ addedArea (adds lent) (lent .area)
+  pub leaves : numbers-after ≡ builderWritten (adds lent) (lent .numbers)
 
 -- a call of `kiban_size`, with any number in its place before
 pub record SizeCall : Type 0 where
@@ -93,11 +93,11 @@ writes lent = writeOf (lent .area) (builderIn (lent .numbers)) (lent .prefix) (l
 pub record WriteCall : Type 0 where
   pub lent : WriteLent
   pub result : ℕ
-  pub output : List ℕ
-  pub len : ℕ
+  pub output-after : List ℕ
+  pub len-after : ℕ
   pub returns : result ≡ wroteNumber (wroteRead (writes lent))
-  pub leaves-output : output ≡ sectionWritten (writes lent) (lent .output)
-  pub leaves-len : len ≡ sectionLenWritten (writes lent) (lent .len)
+  pub leaves-output : output-after ≡ sectionWritten (writes lent) (lent .output)
+  pub leaves-len : len-after ≡ sectionLenWritten (writes lent) (lent .len)
 
 -- ---- a list of adds
 
@@ -118,7 +118,7 @@ pub record AsLeft (m : Memory) (numbers area : List ℕ) : Type 0 where
 
 -- what a call leaves: place 3 counts the used bytes
 unfoldable pub leftBy : AddCall → Memory
-leftBy c = record { numbers = c .numbers; used = take (place (c .numbers) 3) (c .area) }
+leftBy c = record { numbers = c .numbers-after; used = take (place (c .numbers-after) 3) (c .area-after) }
 
 -- the entries taken are those of the calls that returned 0
 unfoldable pub takenWith : List Offer → AddCall → List Offer
@@ -158,8 +158,8 @@ pub record WriteOutcome (taken : List Offer) (c : WriteCall) : Type 0 where
   pub answer : Answer (List ℕ)
   pub outcome : Outcome taken (c .lent .prefix) (c .lent .room64) (c .lent .room32) (length (c .lent .output)) answer
   pub result : c .result ≡ wroteNumber (wroteRead answer)
-  pub output : c .output ≡ sectionWritten answer (c .lent .output)
-  pub len : c .len ≡ sectionLenWritten answer (c .lent .len)
+  pub output : c .output-after ≡ sectionWritten answer (c .lent .output)
+  pub len : c .len-after ≡ sectionLenWritten answer (c .lent .len)
 
 unfoldable pub WriteCalls : Type 0
 WriteCalls =
@@ -173,7 +173,7 @@ pub record Built (taken : List Offer) (prefix : ℕ) (s : List ℕ) : Type 0 whe
   pub left : AsLeft memory (call .lent .numbers) (call .lent .area)
   pub same-prefix : call .lent .prefix ≡ prefix
   pub zero : call .result ≡ 0
-  pub bytes : s ≡ take (call .len) (call .output)
+  pub bytes : s ≡ take (call .len-after) (call .output-after)
 
 -- the prefix that was asked for is in the section: with prefix 0 there is no scan part, with another one there is, and the prefix stands in it
 -- behind the magic
@@ -234,14 +234,14 @@ BuiltLinkerCalls =
 
 -- a call whose result is not 0 writes nothing
 pub record BuildRefusalsWriteNothing : Type 0 where
-  pub adding : (c : AddCall) → (c .result ≡ 0 → ⊥) → (c .area ≡ c .lent .area) × (c .numbers ≡ c .lent .numbers)
+  pub adding : (c : AddCall) → (c .result ≡ 0 → ⊥) → (c .area-after ≡ c .lent .area) × (c .numbers-after ≡ c .lent .numbers)
   pub sizing : (c : SizeCall) → (c .result ≡ 0 → ⊥) → c .after ≡ c .before
-  pub writing : (c : WriteCall) → (c .result ≡ 0 → ⊥) → (c .output ≡ c .lent .output) × (c .len ≡ c .lent .len)
+  pub writing : (c : WriteCall) → (c .result ≡ 0 → ⊥) → (c .output-after ≡ c .lent .output) × (c .len-after ≡ c .lent .len)
 
 -- behind what is written the lent memory keeps what it held
 pub record BehindKept : Type 0 where
   pub adding : (c : AddCall) → c .result ≡ 0
-      → (place (c .numbers) 3 ≤ length (c .lent .area)) × (drop (place (c .numbers) 3) (c .area) ≡ drop (place (c .numbers) 3) (c .lent .area))
+      → (place (c .numbers-after) 3 ≤ length (c .lent .area)) × (drop (place (c .numbers-after) 3) (c .area-after) ≡ drop (place (c .numbers-after) 3) (c .lent .area))
   -- `Bytes`, since a lent area is a slice of bytes
   pub writing : (c : WriteCall) → Bytes (c .lent .area) → c .result ≡ 0
-      → (c .len ≤ length (c .lent .output)) × (drop (c .len) (c .output) ≡ drop (c .len) (c .lent .output))
+      → (c .len-after ≤ length (c .lent .output)) × (drop (c .len-after) (c .output-after) ≡ drop (c .len-after) (c .lent .output))
