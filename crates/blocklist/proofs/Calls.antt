@@ -18,8 +18,8 @@ use Rattle.block.specs.Verify.{verifyOf, verifiedNumber}
 use Rattle.block.proofs.Sound.{sound-exactly}
 use Rattle.opening.specs.Open.{blockBytes, pairFits}
 use Rattle.blocks.specs.declared.BlockRecord.{BlockRecord}
-use Rattle.blocks.specs.declared.Found.{Found}
-use Rattle.blocks.specs.declared.Found.the-variants.{At, Missing}
+use Rattle.blocks.specs.declared.FoundBlock.{FoundBlock}
+use Rattle.blocks.specs.declared.FoundBlock.the-variants.{At, Absent}
 use Rattle.blocks.specs.Blocks.{recordFor, pairRecord, recordsFrom, fillOf, filledRead, filledNumber, filledCount, filledPlaces, findOf, foundPlace}
 use Rattle.blocks.specs.Internal.{answerNumber}
 use Rattle.blocks.proofs.Pairs.{pair-passes, asked-11 as fails-11, Asking, asking-start, asking-done, asking-failed, asking-more}
@@ -229,10 +229,10 @@ fill-left c = go (fillOf (c .backing) (c .blocks) (length (c .before))) refl
 -- ---- finding
 
 module _ (rs : List BlockRecord) (offset : ℕ) where
-  find-result : (f : Found) → findOf rs offset ≡ f → FindResult rs offset (foundPlace (length rs) f)
+  find-result : (f : FoundBlock) → findOf rs offset ≡ f → FindResult rs offset (foundPlace (length rs) f)
   unfolding FindsLowest FindsNone
   find-result (At i) e = found i (finds-lowest rs offset i .0 e)
-  find-result Missing e = none (finds-none rs offset .0 e)
+  find-result Absent e = none (finds-none rs offset .0 e)
 
   find-answered : (n : ℕ) → FindResult rs offset n → foundPlace (length rs) (findOf rs offset) ≡ n
   unfolding FindsLowest FindsNone

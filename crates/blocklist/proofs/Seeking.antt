@@ -10,8 +10,8 @@ use lib.Dec.{eqb, ltb}
 use lib.ListN.{length}
 use borrow.Author.Tests.{eqb-true, eqb-false, ltb-true, ltb-false}
 use Rattle.blocks.specs.declared.BlockRecord.{BlockRecord}
-use Rattle.blocks.specs.declared.Found.{Found}
-use Rattle.blocks.specs.declared.Found.the-variants.{At, Missing}
+use Rattle.blocks.specs.declared.FoundBlock.{FoundBlock}
+use Rattle.blocks.specs.declared.FoundBlock.the-variants.{At, Absent}
 use Rattle.blocks.specs.Blocks.{findFrom, findOf}
 use Rattle.blocklist.specs.Promises.{atPlace, Lowest, FindsLowest, FindsNone}
 
@@ -21,10 +21,10 @@ Nowhere rs offset = (i : ℕ) → i < length rs → atPlace rs i .offset ≡ off
 
 -- what a search of places counted from a number on finds
 Outcome : List BlockRecord → ℕ → ℕ → Type 0
-Outcome rs offset k = ((i : ℕ) × Lowest rs offset i × (findFrom k rs offset ≡ At (k + i))) ⊎ (Nowhere rs offset × (findFrom k rs offset ≡ Missing))
+Outcome rs offset k = ((i : ℕ) × Lowest rs offset i × (findFrom k rs offset ≡ At (k + i))) ⊎ (Nowhere rs offset × (findFrom k rs offset ≡ Absent))
 
 module _ (r : BlockRecord) (rs : List BlockRecord) (offset k : ℕ) where
-  tested : Bool → Found
+  tested : Bool → FoundBlock
   tested b = elim b [ true ↦ At k | false ↦ findFrom (k + 1) rs offset ]
 
   test : findFrom k (r ∷ rs) offset ≡ tested (eqb (r .offset) offset)
@@ -95,10 +95,10 @@ pub finds-none : FindsNone
 unfolding FindsNone Outcome findOf
 finds-none rs offset = (λ e. there (outcome rs offset 0) e, λ n. found (outcome rs offset 0) n)
   where
-    there : Outcome rs offset 0 → findFrom 0 rs offset ≡ Missing → Nowhere rs offset
+    there : Outcome rs offset 0 → findFrom 0 rs offset ≡ Absent → Nowhere rs offset
     there (inl o) e = absurd (let z : _≡_ {A = ℕ} 0 1 = cc (o .2) in omega arith)
     there (inr o) e = o .0
 
-    found : Outcome rs offset 0 → Nowhere rs offset → findFrom 0 rs offset ≡ Missing
+    found : Outcome rs offset 0 → Nowhere rs offset → findFrom 0 rs offset ≡ Absent
     found (inl o) n = absurd (n (o .0) (o .1 .within) (o .1 .there))
     found (inr o) n = o .1

@@ -12,7 +12,7 @@ use Rattle.block.specs.Verify.{SoundBlock}
 use Rattle.opening.specs.Open.{blockBytes}
 use Rattle.blocks.specs.declared.BlockRecord.{BlockRecord}
 use Rattle.blocks.specs.declared.Filled.the-variants.{Wrote, Refused}
-use Rattle.blocks.specs.declared.Found.the-variants.{At, Missing}
+use Rattle.blocks.specs.declared.FoundBlock.the-variants.{At, Absent}
 use Rattle.blocks.specs.Blocks.{fillOf, filledRead, filledPlaces, findOf, noRecord}
 
 -- the record at a place
@@ -89,7 +89,7 @@ FindsLowest = (rs : List BlockRecord) (offset i : ℕ) → (findOf rs offset ≡
 
 -- none is found exactly if no record has the offset
 unfoldable pub FindsNone : Type 0
-FindsNone = (rs : List BlockRecord) (offset : ℕ) → (findOf rs offset ≡ Missing) ↔ ((i : ℕ) → i < length rs → atPlace rs i .offset ≡ offset → ⊥)
+FindsNone = (rs : List BlockRecord) (offset : ℕ) → (findOf rs offset ≡ Absent) ↔ ((i : ℕ) → i < length rs → atPlace rs i .offset ≡ offset → ⊥)
 
 -- behind a fill that wrote n records, in any part of the places that holds a pair's, the offset of that pair finds it
 unfoldable pub FindsPairs : Type 0

@@ -10,8 +10,8 @@ use lib.Dec.{T, eqb}
 use lib.ListN.{length, getD, drop, drop-of-length-le}
 use lib.Seq.{drop-cons}
 use Rattle.blocks.specs.declared.BlockRecord.{BlockRecord}
-use Rattle.blocks.specs.declared.Found.{Found}
-use Rattle.blocks.specs.declared.Found.the-variants.{At, Missing}
+use Rattle.blocks.specs.declared.FoundBlock.{FoundBlock}
+use Rattle.blocks.specs.declared.FoundBlock.the-variants.{At, Absent}
 use Rattle.blocks.specs.Blocks.{findFrom, findOf, noRecord}
 
 -- from a place on the search gives what the whole search gives
@@ -25,12 +25,12 @@ module _ (rs : List BlockRecord) (offset : ℕ) where
   seeking-start = record { within = omega arith; same = refl }
 
   module _ (i : ℕ) (p : Seeking rs offset i) where
-    pub seeking-none : length rs ≤ i → Missing ≡ findOf rs offset
+    pub seeking-none : length rs ≤ i → Absent ≡ findOf rs offset
     unfolding findFrom
     seeking-none h = sym (ap (λ (l : List BlockRecord). findFrom i l offset) (drop-of-length-le rs {i = i} h)) ∙ p .same
 
     module _ (l : i < length rs) where
-      tested : Bool → Found
+      tested : Bool → FoundBlock
       tested b = elim b [ true ↦ At i | false ↦ findFrom (i + 1) (drop (i + 1) rs) offset ]
 
       from-place : tested (eqb (getD rs i noRecord .offset) offset) ≡ findOf rs offset

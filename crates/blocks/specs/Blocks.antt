@@ -15,8 +15,8 @@ use Rattle.opening.specs.Open.{blockBytes, pairFits}
 use Rattle.blocks.specs.declared.BlockRecord.{BlockRecord}
 use Rattle.blocks.specs.declared.Filled.{Filled}
 use Rattle.blocks.specs.declared.Filled.the-variants as filled
-use Rattle.blocks.specs.declared.Found.{Found}
-use Rattle.blocks.specs.declared.Found.the-variants.{At, Missing}
+use Rattle.blocks.specs.declared.FoundBlock.{FoundBlock}
+use Rattle.blocks.specs.declared.FoundBlock.the-variants.{At, Absent}
 
 -- ---- filling
 
@@ -93,18 +93,18 @@ filledPlaces (refused n) before = before
 -- ---- finding
 
 -- the lowest place with that offset, of places counted from a number on
-unfoldable pub findFrom : ℕ → List BlockRecord → ℕ → Found
-findFrom i [] offset = Missing
+unfoldable pub findFrom : ℕ → List BlockRecord → ℕ → FoundBlock
+findFrom i [] offset = Absent
 findFrom i (r ∷ rs) offset = elim (eqb (r .offset) offset) [ true ↦ At i | false ↦ findFrom (i + 1) rs offset ]
 
 -- the lowest place with that offset in the part lent
-unfoldable pub findOf : List BlockRecord → ℕ → Found
+unfoldable pub findOf : List BlockRecord → ℕ → FoundBlock
 findOf rs offset = findFrom 0 rs offset
 
 -- the place as a number, for a list of a length: the length itself for none
-abbrev pub foundPlace : ℕ → Found → ℕ
+abbrev pub foundPlace : ℕ → FoundBlock → ℕ
 foundPlace size (At i) = i
-foundPlace size Missing = size
+foundPlace size Absent = size
 
 -- what is read behind the end of a list of records
 unfoldable pub noRecord : BlockRecord

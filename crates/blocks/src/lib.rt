@@ -25,9 +25,9 @@ pub enum Filled {
 }
 
 // A place counted from the start of the part lent.
-pub enum Found {
+pub enum FoundBlock {
     At(usize),
-    Missing,
+    Absent,
 }
 
 // Questions 11 and 12 of a pair behind a place of the data: 0, or the number of the one that failed.
@@ -143,25 +143,25 @@ pub fn filled_number(filled: Filled, count: &mut u64) -> u64
 }
 
 // The lowest place with that offset in the part lent.
-pub fn find(records: &[BlockRecord], offset: u64) -> Found
+pub fn find(records: &[BlockRecord], offset: u64) -> FoundBlock
     ensures { λ r. ⌜ r ≡ findOf (now (records .entry)) offset ⌝ }
 {
     let mut i = 0;
     while i < records.len() {
         if records[i].offset == offset {
-            return Found::At(i);
+            return FoundBlock::At(i);
         }
         i += 1;
     }
-    Found::Missing
+    FoundBlock::Absent
 }
 
 // The place as a number, for a list of a length.
-pub fn found_place(found: Found, size: usize) -> u64
+pub fn found_place(found: FoundBlock, size: usize) -> u64
     ensures { λ r. ⌜ r ≡ foundPlace size found ⌝ }
 {
     match found {
-        Found::At(i) => i as u64,
-        Found::Missing => size as u64,
+        FoundBlock::At(i) => i as u64,
+        FoundBlock::Absent => size as u64,
     }
 }

@@ -44,12 +44,12 @@ use denote.Triple.Walked.{says, Stays, stay-none, stay-none-slice, walkOf, goes-
 use denote.Exit.{yes}
 use borrow.Author.Needs.{scaled-fits}
 use Rattle.blocks.specs.Blocks.{findOf, noRecord}
-use Rattle.blocks.specs.declared.Found.{Found}
-use Rattle.blocks.specs.declared.Found.the-variants.{At as FoundAt, Missing}
+use Rattle.blocks.specs.declared.FoundBlock.{FoundBlock}
+use Rattle.blocks.specs.declared.FoundBlock.the-variants.{At as BlockAt, Absent}
 use Rattle.blocks.proofs.Walk.{behind, only}
 use Rattle.blocks.proofs.Finding.{Seeking, seeking-start, seeking-found, seeking-more, seeking-none}
-use Rattle.blocks.proofs.Found as R
-use Rattle.blocks.proofs.Found.Laws as R′
+use Rattle.blocks.proofs.FoundBlock as R
+use Rattle.blocks.proofs.FoundBlock.Laws as R′
 use Rattle.blocks.specs.declared.BlockRecord.{BlockRecord}
 use Rattle.blocks.proofs.BlockRecord as T
 use Rattle.blocks.proofs.BlockRecord.Laws as T′
@@ -69,14 +69,14 @@ abbrev step-on : Body
 step-on = behind (behind (behind (behind (behind more))))
 
 -- ---- the answer's machine value
-abbrev vals : Found → List Val
+abbrev vals : FoundBlock → List Val
 vals = LE.vals R.the-type R′.the-laws
 
-made-at : (i : ℕ) → i < 2 ^ 64 → Is R.the-row (FoundAt i) (vals (FoundAt i))
-made-at i l = LE.owes R.the-type R′.the-laws (FoundAt i) ((refl, l), tt)
+made-at : (i : ℕ) → i < 2 ^ 64 → Is R.the-row (BlockAt i) (vals (BlockAt i))
+made-at i l = LE.owes R.the-type R′.the-laws (BlockAt i) ((refl, l), tt)
 
-made-none : Is R.the-row Missing (vals Missing)
-made-none = LE.owes R.the-type R′.the-laws Missing tt
+made-none : Is R.the-row Absent (vals Absent)
+made-none = LE.owes R.the-type R′.the-laws Absent tt
 
 module _ {M : Type 1} (𝓤 : URA M) (H : Heap 𝓤) (A : Atoms 𝓤) (W : Given 𝓤 H A) (mem : Memory → SProp 𝓤) (run : Routine → Fun 𝓤) (κ : Lft) (q : Share) (b o : ℕ) (γ : GName) (ys : List BlockRecord) (off : ℕ) (room : Room T.the-row (length ys)) (off-fits : off < 2 ^ 64) where
   abbrev Arg : Type 0
@@ -97,14 +97,14 @@ module _ {M : Type 1} (𝓤 : URA M) (H : Heap 𝓤) (A : Atoms 𝓤) (W : Given
   abbrev Off : Fml
   Off = u64 .own off (vint w64 off ∷ [])
 
-  exits : (r : Found) (v : Val) → r ≡ findOf ys off → Is R.the-row r (v ∷ []) → ent 𝓤 (⋆ 𝓤 H A (‵ (flft κ q) ∷ ‵ Own ∷ ‵ Off ∷ [])) (Post v)
+  exits : (r : FoundBlock) (v : Val) → r ≡ findOf ys off → Is R.the-row r (v ∷ []) → ent 𝓤 (⋆ 𝓤 H A (‵ (flft κ q) ∷ ‵ Own ∷ ‵ Off ∷ [])) (Post v)
   exits r v e is =
       qed W (‵ (flft κ q) ∷ ‵ Own ∷ ‵ Off ∷ []) ∵
       suffices ! _ (ends-at 𝓤 H A find′.ended stayed (find′.clauses 𝓤 H A mem run) W (((κ, tt), (q, tt), tt, x, at), tt) v r (tt, (tt, tt)) (tt, (tt, tt))) $ says ! e $
       nothing ! $ move ! (1 ∷ 0 ∷ []) $ join ! $ nothing ! $ move ! (3 ∷ 0 ∷ []) $ fjoin ! $ move ! (2 ∷ 0 ∷ []) $ fjoin ! $ move ! (1 ∷ 0 ∷ []) $
       frame ! $ frame ! $ owned ! R.the-row (Is R.the-row) (LE.makes R.the-type R′.the-plain 𝓤 H A) r _ is $ done !
 
-  typed : (r : Found) (v : Val) → Is R.the-row r (v ∷ []) → Holds (hasTy R′.mir v) × WT v
+  typed : (r : FoundBlock) (v : Val) → Is R.the-row r (v ∷ []) → Holds (hasTy R′.mir v) × WT v
   typed r v is = LE.lawful R.the-type R′.the-laws 𝓤 H A W tt .typed r (v ∷ []) is .0
 
   offset-fits : (i : ℕ) → Is T.the-row (getD ys i noRecord) (LL.vals T.the-type T′.the-laws (getD ys i noRecord)) → getD ys i noRecord .offset < 2 ^ 64
@@ -167,10 +167,10 @@ module _ {M : Type 1} (𝓤 : URA M) (H : Heap 𝓤) (A : Atoms 𝓤) (W : Given
         assigns ! (bin ! (load ! (from ! (stop !)) (look ! 2 refl)) (load ! (from ! (stop !)) (look ! 12 refl)) tt) (from ! (stop !)) (store ! 6 refl (tt, tt)) $
         first ! $ branches ! (load ! (from ! (stop !)) (look ! 6 refl))
         (λ same.
-        assigns ! (agg ! (and-then ! (lit ! tt) (and-then ! (load ! (from ! (stop !)) (look ! 10 refl)) (no-more !)))) (from ! (stop !)) (init ! 16 refl (typed (FoundAt (i .0)) _ (made-at (i .0) (fits i)))) $
+        assigns ! (agg ! (and-then ! (lit ! tt) (and-then ! (load ! (from ! (stop !)) (look ! 10 refl)) (no-more !)))) (from ! (stop !)) (init ! 16 refl (typed (BlockAt (i .0)) _ (made-at (i .0) (fits i)))) $
         returns-within ! Post refl (look ! 16 refl) $ forget ! 2 refl $ forget ! 4 refl $ forget ! 6 refl $ forget ! 8 refl $ forget ! 10 refl $ forget ! 12 refl $ forget ! 14 refl $ forget ! 16 refl $
         move ! (16 ∷ 17 ∷ []) $ free1 ! $ move ! (14 ∷ 15 ∷ []) $ free1 ! $ move ! (12 ∷ 13 ∷ []) $ free1 ! $ move ! (10 ∷ 11 ∷ []) $ free1 ! $ move ! (8 ∷ 9 ∷ []) $ free1 ! $ move ! (6 ∷ 7 ∷ []) $ free1 ! $ move ! (4 ∷ 5 ∷ []) $ free1 ! $ move ! (2 ∷ 3 ∷ []) $ free1 ! $ free0 ! $
-        move ! (1 ∷ 0 ∷ []) $ by ! (exits (FoundAt (i .0)) _ (seeking-found ys off (i .0) (i .1) l same) (made-at (i .0) (fits i))))
+        move ! (1 ∷ 0 ∷ []) $ by ! (exits (BlockAt (i .0)) _ (seeking-found ys off (i .0) (i .1) l same) (made-at (i .0) (fits i))))
         (λ other.
         skips ! $ exec ! C Λ En step-on (anyQ (Turned i)) $
         assigns-last ! (bin ! (load ! (from ! (stop !)) (look ! 10 refl)) (lit ! tt) (more-fits l)) (from ! (stop !)) (store ! 10 refl (tt, more-fits l)) $
@@ -178,10 +178,10 @@ module _ {M : Type 1} (𝓤 : URA M) (H : Heap 𝓤) (A : Atoms 𝓤) (W : Given
         move ! (2 ∷ 3 ∷ 4 ∷ 5 ∷ 6 ∷ 7 ∷ 8 ∷ 9 ∷ 10 ∷ 11 ∷ 12 ∷ 13 ∷ 14 ∷ 15 ∷ 16 ∷ 17 ∷ 1 ∷ 0 ∷ []) $
         again ! Nearer At i (next l other) (closer (i .0) l)))))
         (λ over. jumps ! $ exec ! C Λ En code.Mir.t-3 (atRet En Post) $
-        assigns ! (agg ! (and-then ! (lit ! tt) (no-more !))) (from ! (stop !)) (init ! 14 refl (typed Missing _ made-none)) $
+        assigns ! (agg ! (and-then ! (lit ! tt) (no-more !))) (from ! (stop !)) (init ! 14 refl (typed Absent _ made-none)) $
         returns ! (look ! 14 refl) $ forget ! 4 refl $ forget ! 6 refl $ forget ! 8 refl $ forget ! 10 refl $ forget ! 12 refl $ forget ! 14 refl $
         move ! (14 ∷ 15 ∷ []) $ free1 ! $ move ! (12 ∷ 13 ∷ []) $ free1 ! $ move ! (10 ∷ 11 ∷ []) $ free1 ! $ move ! (8 ∷ 9 ∷ []) $ free1 ! $ move ! (6 ∷ 7 ∷ []) $ free1 ! $ move ! (4 ∷ 5 ∷ []) $ free1 ! $ move ! (2 ∷ 3 ∷ []) $ free1 ! $ free1 ! $ free0 ! $
-        by ! (exits Missing _ (seeking-none ys off (i .0) (i .1) (nltb→le (i .0) (length ys) over)) made-none))
+        by ! (exits Absent _ (seeking-none ys off (i .0) (i .1) (nltb→le (i .0) (length ys) over)) made-none))
       where
         fits : (j : Upto) → j .0 < 2 ^ 64
         fits j = lt-of-le-of-lt (j .1 .within) (room .0)

@@ -39,11 +39,11 @@ use denote.Triple.Table.{entered, cited}
 use denote.Triple.Walked.{says, Stays, stay-none, stay-none-slice, walkOf, goes-none, goes-none-slice, Walks, ends-at, walked, walk-meets}
 use denote.Exit.{yes}
 use Rattle.blocks.specs.declared.BlockRecord.{BlockRecord}
-use Rattle.blocks.specs.declared.Found.{Found}
+use Rattle.blocks.specs.declared.FoundBlock.{FoundBlock}
 use Rattle.blocks.specs.Blocks.{findOf, foundPlace}
 use Rattle.blocks.proofs.BlockRecord as T
-use Rattle.blocks.proofs.Found as R
-use Rattle.blocks.proofs.Found.Laws as R′
+use Rattle.blocks.proofs.FoundBlock as R
+use Rattle.blocks.proofs.FoundBlock.Laws as R′
 use Rattle.blocks.proofs.find as find
 use Rattle.blocks.proofs.find.Symbol as find-def
 use Rattle.blocks.proofs.find.Symbol.{name as #blocks·find}
@@ -92,7 +92,7 @@ module _ {M : Type 1} (𝓤 : URA M) (H : Heap 𝓤) (A : Atoms 𝓤) (W : Given
   abbrev Own : Fml
   Own = ShrSlice (named 0) κ T.the-row .own r₀ (s ∷ [])
 
-  typed : (f : Found) (u : Val) → Is R.the-row f (u ∷ []) → Holds (hasTy R′.mir u) × WT u
+  typed : (f : FoundBlock) (u : Val) → Is R.the-row f (u ∷ []) → Holds (hasTy R′.mir u) × WT u
   typed f u is = LE.lawful R.the-type R′.the-laws 𝓤 H A W tt .typed f (u ∷ []) is .0
 
   exits : (r : ℕ) (w : Val) → r ≡ foundPlace (length ys) (findOf ys off) → ent 𝓤 (⋆ 𝓤 H A (‵ (u64 .own r (w ∷ [])) ∷ (‵ (flft κ q) ⊛ ‵ ftrue) ∷ ‵ Own ∷ [])) (Post w)
@@ -106,22 +106,22 @@ module _ {M : Type 1} (𝓤 : URA M) (H : Heap 𝓤) (A : Atoms 𝓤) (W : Given
   abbrev to-find : Find 𝓤 H A mem run .Ghost
   to-find = (((κ, tt), (q, tt), tt, x, at), tt)
 
-  abbrev to-place : Found → Val → Place 𝓤 H A mem run .Ghost
+  abbrev to-place : FoundBlock → Val → Place 𝓤 H A mem run .Ghost
   to-place f u = ((tt, tt, tt, (f, (length ys, tt)), (u ∷ [], (vint w64 (length ys) ∷ [], tt))), tt)
 
   asks : ent 𝓤 (onEntry 𝓤 H A find.signature (κ, tt) (q, tt) x at) (Find 𝓤 H A mem run .pre to-find)
   asks = qed W ((‵ (flft κ q) ⊛ ‵ ftrue) ∷ ‵ (owns (ShrSlice (named 0) κ T.the-row ∷ u64 ∷ []) x at) ∷ []) ∵ join ! $ frame ! $ done !
 
-  asks-place : (f : Found) (u : Val) → ent 𝓤 (sem 𝓤 H A (R.the-row .own f (u ∷ []))) (Place 𝓤 H A mem run .pre (to-place f u))
+  asks-place : (f : FoundBlock) (u : Val) → ent 𝓤 (sem 𝓤 H A (R.the-row .own f (u ∷ []))) (Place 𝓤 H A mem run .pre (to-place f u))
   asks-place f u =
       qed W (‵ (R.the-row .own f (u ∷ [])) ∷ []) ∵
       nothing ! $ owned ! usize (Is usize) (uint-makes 𝓤 H A W w64) (length ys) _ (refl, room .0) $ fjoin ! $ move ! (1 ∷ 0 ∷ []) $ fjoin ! $ nothing ! $ join ! $ frame ! $ done !
 
   -- of what a callee ensures, the clause alone
-  said : (f : Found) → ent 𝓤 (ensured 𝓤 H A find.ended (find.clauses 𝓤 H A mem run) (κ, tt) x tt f) (fact 𝓤 (f ≡ findOf ys off))
+  said : (f : FoundBlock) → ent 𝓤 (ensured 𝓤 H A find.ended (find.clauses 𝓤 H A mem run) (κ, tt) x tt f) (fact 𝓤 (f ≡ findOf ys off))
   said f = exE 𝓤 _ (λ w. snd∗ 𝓤 (sem 𝓤 H A (lasts find.ended (κ, tt) x w)) (fact 𝓤 (f ≡ findOf ys off)))
 
-  said-place : (f : Found) (r : ℕ) → ent 𝓤 (ensured 𝓤 H A place.ended (place.clauses 𝓤 H A mem run) tt (f, (length ys, tt)) tt r) (fact 𝓤 (r ≡ foundPlace (length ys) f))
+  said-place : (f : FoundBlock) (r : ℕ) → ent 𝓤 (ensured 𝓤 H A place.ended (place.clauses 𝓤 H A mem run) tt (f, (length ys, tt)) tt r) (fact 𝓤 (r ≡ foundPlace (length ys) f))
   said-place f r = exE 𝓤 _ (λ w. snd∗ 𝓤 (sem 𝓤 H A (lasts place.ended tt (f, (length ys, tt)) w)) (fact 𝓤 (r ≡ foundPlace (length ys) f)))
 
   module _ (C : Calls 𝓤 H) (Λ : Loops 𝓤 H) (fm : FmC 𝓤 H (W .laws) C) (known : Met 𝓤 H A mem run C) where
@@ -134,7 +134,7 @@ module _ {M : Type 1} (𝓤 : URA M) (H : Heap 𝓤) (A : Atoms 𝓤) (W : Given
         move ! (11 ∷ []) $ fsplit ! $ use1 W (‵ Own ⊛ ‵ Own) (shr-slice-copy 𝓤 H A W (named 0) κ T.the-row .twice r₀ (s ∷ [])) $ split ! $
         move ! (0 ∷ 2 ∷ []) $ fjoin ! $ move ! (12 ∷ 0 ∷ []) $ use2 W (raw (Find 𝓤 H A mem run .pre to-find)) asks $
         calls-at ! fm (Find 𝓤 H A mem run) (known .0) to-find (and-then ! (load ! (from ! (stop !)) (look ! 8 refl)) (and-then ! (load ! (from ! (stop !)) (look ! 6 refl)) (no-more !))) (λ u.
-        use1 W (later (some (λ (f : Found). ((‵ (flft κ q) ⊛ ‵ ftrue) ⊛ ‵ (R.the-row .own f (u ∷ []))) ⊛ raw (ensured 𝓤 H A find.ended (find.clauses 𝓤 H A mem run) (κ, tt) x tt f)))) (id⊢ 𝓤 _) $ await ! tt $ pick ! (λ f.
+        use1 W (later (some (λ (f : FoundBlock). ((‵ (flft κ q) ⊛ ‵ ftrue) ⊛ ‵ (R.the-row .own f (u ∷ []))) ⊛ raw (ensured 𝓤 H A find.ended (find.clauses 𝓤 H A mem run) (κ, tt) x tt f)))) (id⊢ 𝓤 _) $ await ! tt $ pick ! (λ f.
         split ! $ move ! (1 ∷ []) $ use1 W (raw (fact 𝓤 (f ≡ findOf ys off))) (said f) $ heard ! (f ≡ findOf ys off) (λ e. split ! $ move ! (1 ∷ []) $
         -- [what the answer owns; the token; what records owns; _4; …; _0; …]
         peeks ! R.the-row (Is R.the-row) (shows 𝓤 H A R.the-row) f (u ∷ []) (λ is.
