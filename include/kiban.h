@@ -89,7 +89,7 @@ enum kiban_refusal {
 #define KIBAN_SCRATCH64_LEN(keys) (keys)
 #define KIBAN_SCRATCH32_LEN(keys) (6 * (keys) + 8)
 
-/* A lookup without a limit. */
+/* A lookup or a span without a limit. */
 #define KIBAN_NO_LIMIT UINT64_MAX
 
 /* Places of an opened record; the last three are 0. */

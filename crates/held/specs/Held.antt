@@ -1,4 +1,4 @@
--- Question 24 of sixteen numbers, test by test as a lookup asks it: one of a record that is packed, one of another.
+-- Question 24 of sixteen numbers, test by test as code asks it: one of a record that is packed, one of another.
 use Prim.Native.Nat.{ℕ, _+_, _*_, _-_, _/_, _^_}
 use mathlib.Core.Path.{_≡_}
 use mathlib.Core.List.{List}

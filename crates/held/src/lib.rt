@@ -1,4 +1,4 @@
-// Question 24 of sixteen numbers, before a record is made of them: a lookup asks it each time. Tests that need no other are joined
+// Question 24 of sixteen numbers, before a record is made of them: every lookup and every span asks it. Tests that need no other are joined
 // by `&`, which leaves few branches.
 ghost use mathlib.Core.Path.{_≡_};
 ghost use Prim.Native.Nat.{_+_, _≤_};

@@ -16,7 +16,7 @@ pub fn lookup(
     ensures { λ r. ⌜ (r ≡ locatedNumber (lookupOf (now (section .entry)) (now (numbers .entry)) (now (key .entry)) limit))
         × (now (answer .exit) ≡ answerWritten (lookupOf (now (section .entry)) (now (numbers .entry)) (now (key .entry)) limit) (now (answer .entry))) ⌝ }
 {
-    // The hash waits on itself; the tests of 24 go on meanwhile.
+    // Each step of the hash needs the one before; the tests of 24 need none of them, and run beside it.
     let h = point::hash(key, numbers[0]);
     if !held::holds(section, numbers) {
         return 24;

@@ -55,12 +55,12 @@ fn scan_values(
     let table = o.scan + Encoding::SCAN_HEADER + 4 * first as usize;
     let address = num::u32_at(section, table) as usize;
     if count == 1 {
-        return spans::key_value(section, o, address, limit, pairs);
+        return spans::one_value(section, o, address, limit, pairs);
     }
     if wholekeys::keys_whole(section, o, first, count) {
         return Spanned::Pairs(wholepairs::put_whole(section, o, first, count, limit, pairs));
     }
-    spans::key_values(section, o, count, address, limit, pairs)
+    spans::values_from(section, o, count, address, limit, pairs)
 }
 
 // Questions 27 to 29 and 25, of a record that 24 holds of.
@@ -88,7 +88,7 @@ fn record_span(
     scan_values(section, o, first, count, limit, pairs)
 }
 
-// The span over sixteen numbers, which writes how many pairs there are: 0, or the number of the question that failed.
+// The span over sixteen numbers. The result is 0, or the number of the question that failed; how many pairs there are goes to `found`.
 pub fn span(
     section: &[u8],
     numbers: &[u64; 16],

@@ -24,8 +24,8 @@ use Rattle.scans.proofs.Asked.{scanned}
 use Rattle.scans.specs.Spans.{spanOfNumbers, foundWritten}
 use Rattle.calls.specs.Calls.{place, Holding, GivesRecord}
 use Rattle.calls.proofs.Given.{passed, numbers-pass, bytes-pass}
-use Rattle.spanning.specs.Reads.{KeysRead}
-use Rattle.spanning.specs.Calls.{spanned, SpanCall, pairAt, PairsLeft, NumbersScan, KeysInside, Room, Passes, Fails, SpanAsked}
+use Rattle.spanning.specs.Reads.{KeysGive}
+use Rattle.spanning.specs.Calls.{spanned, SpanCall, pairAt, PairsLeft, NumbersScan, KeysInside, PlacesEnough, Passes, ReadFails, SpanAsked}
 use Rattle.spanning.proofs.Judged.{Judged, bad, good, span-judged, keys-few}
 
 number : Answer (List Pair) → ℕ
@@ -156,7 +156,7 @@ module _ (h : Holding) (first count limit places : ℕ) where
     λ l. le-leb (first + count) (place (h .numbers) 2) (omega arith),
   )
 
-  places-asked : (t29 ≡ true) ↔ Room count places
+  places-asked : (t29 ≡ true) ↔ PlacesEnough count places
   places-asked = (λ e. let l = leb-true (2 * count) places e in omega arith, λ l. le-leb (2 * count) places (omega arith))
 
   -- numbers that do not come from a question on
@@ -217,7 +217,7 @@ module _ (h : Holding) (first count limit places : ℕ) where
         λ q. f .1 (q .0, q .1, w .1 (q .2, q .3)),
       )
 
-  result-29 : (number from24 ≡ 29) ↔ (GivesRecord h × NumbersScan (h .numbers) × KeysInside h first count × (Room count places → ⊥))
+  result-29 : (number from24 ≡ 29) ↔ (GivesRecord h × NumbersScan (h .numbers) × KeysInside h first count × (PlacesEnough count places → ⊥))
   result-29 =
       let f = from-29 29 (λ e. omega arith) (λ e. omega arith) (λ e. omega arith) in
       let w = own t29 29 read places-asked (not-read 29 (λ e. omega arith) (λ e. omega arith)) in
@@ -233,13 +233,13 @@ module _ (h : Holding) (first count limit places : ℕ) where
         λ q. let p = q .0 in f .1 (p .gives, p .scans, p .keys, w .1 (p .room, q .1)),
       )
 
-  result-25 : (number from24 ≡ 25) ↔ (Passes h first count places × Fails h first count limit)
+  result-25 : (number from24 ≡ 25) ↔ (Passes h first count places × ReadFails h first count limit)
   result-25 =
       let f = from-reads 25 (λ e. omega arith) (λ e. omega arith) (λ e. omega arith) (λ e. omega arith) in
       let w = judged-25 (span-judged (h .bytes) o first limit count) in
       (λ e. let q = f .0 e in (q .0, w .0 (q .1)), λ q. f .1 (q .0, w .1 (q .1)))
 
-  result-0 : (number from24 ≡ 0) ↔ (Passes h first count places × (Fails h first count limit → ⊥))
+  result-0 : (number from24 ≡ 0) ↔ (Passes h first count places × (ReadFails h first count limit → ⊥))
   result-0 =
       let f = from-reads 0 (λ e. omega arith) (λ e. omega arith) (λ e. omega arith) (λ e. omega arith) in
       let w = judged-0 (span-judged (h .bytes) o first limit count) in
@@ -254,7 +254,7 @@ module _ (h : Holding) (first count limit places : ℕ) where
       ∙ if-true t29 read (refused 29) (places-asked .1 (p .room))
 
   given-pairs : number from24 ≡ 0
-      → (ps : List Pair) × KeysRead (h .bytes) o first limit 0 count ps × (spanOfNumbers (h .bytes) (h .numbers) first count limit places ≡ given ps)
+      → (ps : List Pair) × KeysGive (h .bytes) o first limit 0 count ps × (spanOfNumbers (h .bytes) (h .numbers) first count limit places ≡ given ps)
   given-pairs z =
       let q = from-reads 0 (λ e. omega arith) (λ e. omega arith) (λ e. omega arith) (λ e. omega arith) .0 z in
       let r = judged-pairs (span-judged (h .bytes) o first limit count) (q .1) in

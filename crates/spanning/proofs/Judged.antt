@@ -21,12 +21,12 @@ use Rattle.agreement.specs.Keys.{keyHeaderSize, versionSize, keyHeaderIn, keyRe
 use Rattle.agreement.proofs.Same.{version-size-is}
 use Rattle.locator.specs.Locator.{readable}
 use Rattle.spans.specs.Span.{Pair, scanAddress, valueEnd, unlessTombstone, valueAt, valueFrom, versionsStart, keyValue, nextAddress, pairsJoined, valuesFrom}
-use Rattle.spanning.specs.Reads.{headerAt, placeAt, seqAt, markedAt, offsetAt, readEnd, Reached, Unread, header, sequence, sum, value, KeyRead, put, tombstone, none, addressRead, SomeUnread, KeysRead, noKey, nextKey, KeysReadOne}
+use Rattle.spanning.specs.Reads.{headerAt, placeAt, seqAt, markedAt, offsetAt, readEnd, Reached, Unread, header, sequence, sum, value, KeyGives, put, tombstone, none, addressRead, SomeUnread, KeysGive, noKey, nextKey, KeysGiveOne}
 
 -- an answer is 25 and a read fails, or none does and the pairs are given
-pub data Judged (Fails : Type 0) (Gives : List Pair → Type 0) (r : Answer (List Pair)) : Type 0 where
-  bad : Fails → r ≡ refused 25 → Judged Fails Gives r
-  good : (ps : List Pair) → (Fails → ⊥) → Gives ps → r ≡ given ps → Judged Fails Gives r
+pub data Judged (ReadFails : Type 0) (Gives : List Pair → Type 0) (r : Answer (List Pair)) : Type 0 where
+  bad : ReadFails → r ≡ refused 25 → Judged ReadFails Gives r
+  good : (ps : List Pair) → (ReadFails → ⊥) → Gives ps → r ≡ given ps → Judged ReadFails Gives r
 
 -- ---- one key record
 
@@ -100,7 +100,7 @@ module _ (s : List ℕ) (o : Opened) (limit address : ℕ) where
             (let m = met i r in omega arith) (λ h n m. let a = p .above i h in omega arith) (λ n m. omega arith) v l
 
   -- the pairs of the version that is met
-  met-read : (j : ℕ) → Reached s o limit address j → seq j ≤ limit → KeyRead s o limit address (valueAt s o (at j))
+  met-read : (j : ℕ) → Reached s o limit address j → seq j ≤ limit → KeyGives s o limit address (valueAt s o (at j))
   unfolding valueAt unlessTombstone kindIn lengthIn storedValue storedOffset if_then_else_ tombstoneOf topBit markedAt offsetAt
   met-read j r w = go (leb (tombstoneOf (o .encoding)) (storedValue s o (at j))) refl
     where
@@ -111,14 +111,14 @@ module _ (s : List ℕ) (o : Opened) (limit address : ℕ) where
       short l = ap (λ (n : ℕ). record { offset = offsetAt s o address j; len = n }) (mod-eq-of-lt l)
 
       go : (b : Bool) → leb (tombstoneOf (o .encoding)) (storedValue s o (at j)) ≡ b
-          → KeyRead s o limit address (unlessTombstone (if b then Tombstone else Put) pair)
+          → KeyGives s o limit address (unlessTombstone (if b then Tombstone else Put) pair)
       go true e = tombstone j r w (leb-true _ _ e)
       go false e =
           let l = leb-false (tombstoneOf (o .encoding)) (storedValue s o (at j)) e in
-          subst (λ (p : Pair). KeyRead s o limit address (p ∷ [])) (sym (short l)) (put j r w l)
+          subst (λ (p : Pair). KeyGives s o limit address (p ∷ [])) (sym (short l)) (put j r w l)
 
   abbrev KeyJudged : Answer (List Pair) → Type 0
-  KeyJudged = Judged (Unread s o limit address) (KeyRead s o limit address)
+  KeyJudged = Judged (Unread s o limit address) (KeyGives s o limit address)
 
   module _ (inside : o .arena + address + keyHeaderSize (o .encoding) ≤ length s) where
     -- the versions from j on
@@ -189,8 +189,8 @@ module _ (s : List ℕ) (o : Opened) (first limit : ℕ) where
 
   -- a key record before the others
   joined : (i count : ℕ) (a b : Answer (List Pair)) → KeyJudged s o limit (addressRead s o first i) a
-      → Judged (SomeFrom (suc i) count) (KeysRead s o first limit (suc i) count) b
-      → Judged (SomeFrom i (suc count)) (KeysRead s o first limit i (suc count)) (pairsJoined a b)
+      → Judged (SomeFrom (suc i) count) (KeysGive s o first limit (suc i) count) b
+      → Judged (SomeFrom i (suc count)) (KeysGive s o first limit i (suc count)) (pairsJoined a b)
   unfolding pairsJoined SomeFrom
   joined i count a b (bad u e) q = bad (i, omega arith, omega arith, u) (ap (λ (x : Answer (List Pair)). pairsJoined x b) e)
   joined i count a b (good ps n g e) (bad (k, l, m, u) f) = bad (k, omega arith, omega arith, u) (ap₂ pairsJoined e f)
@@ -201,33 +201,33 @@ module _ (s : List ℕ) (o : Opened) (first limit : ℕ) where
           first-or-later (λ (j : ℕ). Unread s o limit (addressRead s o first j) → ⊥) i k l n (λ later v. m (k, later, omega arith, v)) u
 
   -- so many from one on
-  keys-judged : (count i : ℕ) → Judged (SomeFrom i count) (KeysRead s o first limit i count) (valuesFrom count s o limit (addressRead s o first i))
+  keys-judged : (count i : ℕ) → Judged (SomeFrom i count) (KeysGive s o first limit i count) (valuesFrom count s o limit (addressRead s o first i))
   unfolding valuesFrom SomeFrom
   keys-judged zero i = good [] (λ (k, l, m, u). omega arith) noKey refl
   keys-judged (suc count) i =
       joined i count _ _ (key-judged s o limit (addressRead s o first i))
-      (subst (λ (a : ℕ). Judged (SomeFrom (suc i) count) (KeysRead s o first limit (suc i) count) (valuesFrom count s o limit a)) (sym (next-address i))
+      (subst (λ (a : ℕ). Judged (SomeFrom (suc i) count) (KeysGive s o first limit (suc i) count) (valuesFrom count s o limit a)) (sym (next-address i))
       (keys-judged count (suc i)))
 
   -- the walk of a span
   pub span-judged : (count : ℕ)
-      → Judged (SomeUnread s o first count limit) (KeysRead s o first limit 0 count) (valuesFrom count s o limit (scanAddress s o first))
+      → Judged (SomeUnread s o first count limit) (KeysGive s o first limit 0 count) (valuesFrom count s o limit (scanAddress s o first))
   unfolding scanAddress addressRead SomeFrom
   span-judged count = go (keys-judged count 0)
     where
-      go : Judged (SomeFrom 0 count) (KeysRead s o first limit 0 count) (valuesFrom count s o limit (scanAddress s o first))
-          → Judged (SomeUnread s o first count limit) (KeysRead s o first limit 0 count) (valuesFrom count s o limit (scanAddress s o first))
+      go : Judged (SomeFrom 0 count) (KeysGive s o first limit 0 count) (valuesFrom count s o limit (scanAddress s o first))
+          → Judged (SomeUnread s o first count limit) (KeysGive s o first limit 0 count) (valuesFrom count s o limit (scanAddress s o first))
       go (bad (k, l, m, u) e) = bad (record { index = k; below = omega arith; unread = u }) e
       go (good ps n g e) =
           good ps (λ f. let b = f .below in n (f .index, omega arith, omega arith, f .unread)) g e
 
 -- a key record gives one pair at most
-key-few : {s : List ℕ} {o : Opened} {limit address : ℕ} {ps : List Pair} → KeyRead s o limit address ps → length ps ≤ 1
+key-few : {s : List ℕ} {o : Opened} {limit address : ℕ} {ps : List Pair} → KeyGives s o limit address ps → length ps ≤ 1
 key-few (put j r w l) = omega arith
 key-few (tombstone j r w l) = omega arith
 key-few (none n) = omega arith
 
-pub keys-few : {s : List ℕ} {o : Opened} {first limit i count : ℕ} {ps : List Pair} → KeysRead s o first limit i count ps → length ps ≤ count
+pub keys-few : {s : List ℕ} {o : Opened} {first limit i count : ℕ} {ps : List Pair} → KeysGive s o first limit i count ps → length ps ≤ count
 keys-few noKey = omega arith
 keys-few (nextKey {ps = one} {qs = rest} k r) = let a = key-few k in let b = keys-few r in omega (arith, length-append one rest)
 
@@ -241,7 +241,7 @@ module _ (s : List ℕ) (o : Opened) (limit address : ℕ) where
       let n : j < i → ⊥ = λ l. let z = p .above j l in omega arith in
       omega (arith, m, n)
 
-  key-one : (ps qs : List Pair) → KeyRead s o limit address ps → KeyRead s o limit address qs → ps ≡ qs
+  key-one : (ps qs : List Pair) → KeyGives s o limit address ps → KeyGives s o limit address qs → ps ≡ qs
   key-one ps qs (put i p a m) (put j q b n) =
       ap (λ (k : ℕ). record { offset = offsetAt s o address k; len = markedAt s o address k } ∷ []) (met-one i j p q a b)
   key-one ps qs (put i p a m) (tombstone j q b n) =
@@ -255,8 +255,8 @@ module _ (s : List ℕ) (o : Opened) (limit address : ℕ) where
   key-one ps qs (none m) (tombstone j q b n) = refl
   key-one ps qs (none m) (none n) = refl
 
-pub keys-read-one : KeysReadOne
-unfolding KeysReadOne
-keys-read-one s o first limit i count ps qs noKey noKey = refl
-keys-read-one s o first limit i count ps qs (nextKey k r) (nextKey l q) =
-    ap₂ (λ (a b : List Pair). a ++ b) (key-one s o limit (addressRead s o first i) _ _ k l) (keys-read-one s o first limit (suc i) _ _ _ r q)
+pub keys-give-one : KeysGiveOne
+unfolding KeysGiveOne
+keys-give-one s o first limit i count ps qs noKey noKey = refl
+keys-give-one s o first limit i count ps qs (nextKey k r) (nextKey l q) =
+    ap₂ (λ (a b : List Pair). a ++ b) (key-one s o limit (addressRead s o first i) _ _ k l) (keys-give-one s o first limit (suc i) _ _ _ r q)

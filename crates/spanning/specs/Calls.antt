@@ -15,7 +15,7 @@ use Rattle.spans.specs.Span.{Pair, pairsWritten, spannedRead, spannedNumber}
 use Rattle.scans.specs.Spans.{spanOfNumbers, foundWritten}
 use Rattle.calls.specs.Calls.{place, Holding, Linker, holding, blocksHeld, LookupCall, GivesRecord}
 use Rattle.spanning.specs.Spans.{storeKeys, keysSpanned, SpanGives}
-use Rattle.spanning.specs.Reads.{SomeUnread, KeysRead}
+use Rattle.spanning.specs.Reads.{SomeUnread, KeysGive}
 
 -- what a span over the bytes and numbers held answers, for so many places
 abbrev pub spanned : Holding → ℕ → ℕ → ℕ → ℕ → Answer (List Pair)
@@ -69,19 +69,19 @@ abbrev pub KeysInside : Holding → ℕ → ℕ → Type 0
 KeysInside h first count = first + count ≤ place (h .numbers) 2
 
 -- question 29: two places for each key
-abbrev pub Room : ℕ → ℕ → Type 0
-Room count places = 2 * count ≤ places
+abbrev pub PlacesEnough : ℕ → ℕ → Type 0
+PlacesEnough count places = 2 * count ≤ places
 
 -- 24, 27, 28 and 29 are answered by yes
 pub record Passes (h : Holding) (first count places : ℕ) : Type 0 where
   pub gives : GivesRecord h
   pub scans : NumbersScan (h .numbers)
   pub keys : KeysInside h first count
-  pub room : Room count places
+  pub room : PlacesEnough count places
 
 -- question 25: a read or a sum of a key record fails
-abbrev pub Fails : Holding → ℕ → ℕ → ℕ → Type 0
-Fails h first count limit = SomeUnread (h .bytes) (openedOf (h .numbers)) first count limit
+abbrev pub ReadFails : Holding → ℕ → ℕ → ℕ → Type 0
+ReadFails h first count limit = SomeUnread (h .bytes) (openedOf (h .numbers)) first count limit
 
 -- the result by the questions in their order, and the pairs
 pub record SpanAnswer (h : Holding) (first count limit : ℕ) (c : SpanCall h first count limit) : Type 0 where
@@ -89,12 +89,12 @@ pub record SpanAnswer (h : Holding) (first count limit : ℕ) (c : SpanCall h fi
   pub refused-27 : (c .result ≡ 27) ↔ (GivesRecord h × (NumbersScan (h .numbers) → ⊥))
   pub refused-28 : (c .result ≡ 28) ↔ (GivesRecord h × NumbersScan (h .numbers) × (KeysInside h first count → ⊥))
   pub refused-29 : (c .result ≡ 29)
-      ↔ (GivesRecord h × NumbersScan (h .numbers) × KeysInside h first count × (Room count (length (c .before)) → ⊥))
-  pub refused-25 : (c .result ≡ 25) ↔ (Passes h first count (length (c .before)) × Fails h first count limit)
-  pub zero : (c .result ≡ 0) ↔ (Passes h first count (length (c .before)) × (Fails h first count limit → ⊥))
+      ↔ (GivesRecord h × NumbersScan (h .numbers) × KeysInside h first count × (PlacesEnough count (length (c .before)) → ⊥))
+  pub refused-25 : (c .result ≡ 25) ↔ (Passes h first count (length (c .before)) × ReadFails h first count limit)
+  pub zero : (c .result ≡ 0) ↔ (Passes h first count (length (c .before)) × (ReadFails h first count limit → ⊥))
   -- then the pairs of the key records read are left, in their order
   pub gives : c .result ≡ 0
-      → (ps : List Pair) × KeysRead (h .bytes) (openedOf (h .numbers)) first limit 0 count ps × PairsLeft h first count limit c ps
+      → (ps : List Pair) × KeysGive (h .bytes) (openedOf (h .numbers)) first limit 0 count ps × PairsLeft h first count limit c ps
 
 -- every span, whatever bytes and numbers it is lent, is answered so
 unfoldable pub SpanAsked : Type 0

@@ -52,11 +52,11 @@ pub data Unread (s : List ℕ) (o : Opened) (limit address : ℕ) : Type 0 where
   value : (j : ℕ) → Reached s o limit address j → seqAt s o address j ≤ limit → length s < readEnd s o address j → Unread s o limit address
 
 -- the pairs of the key record: the value of its first version within the limit, none for a tombstone or where every version is above
-pub data KeyRead (s : List ℕ) (o : Opened) (limit address : ℕ) : List Pair → Type 0 where
+pub data KeyGives (s : List ℕ) (o : Opened) (limit address : ℕ) : List Pair → Type 0 where
   put : (j : ℕ) → Reached s o limit address j → seqAt s o address j ≤ limit → markedAt s o address j < topBit o
-      → KeyRead s o limit address (record { offset = offsetAt s o address j; len = markedAt s o address j } ∷ [])
-  tombstone : (j : ℕ) → Reached s o limit address j → seqAt s o address j ≤ limit → topBit o ≤ markedAt s o address j → KeyRead s o limit address []
-  none : ((j : ℕ) → j < headerAt s o address .versions → limit < seqAt s o address j) → KeyRead s o limit address []
+      → KeyGives s o limit address (record { offset = offsetAt s o address j; len = markedAt s o address j } ∷ [])
+  tombstone : (j : ℕ) → Reached s o limit address j → seqAt s o address j ≤ limit → topBit o ≤ markedAt s o address j → KeyGives s o limit address []
+  none : ((j : ℕ) → j < headerAt s o address .versions → limit < seqAt s o address j) → KeyGives s o limit address []
 
 -- ---- the key records of a span
 
@@ -74,13 +74,13 @@ pub record SomeUnread (s : List ℕ) (o : Opened) (first count limit : ℕ) : Ty
   pub unread : Unread s o limit (addressRead s o first index)
 
 -- the pairs of so many of them from one on, those of one behind those of the one before
-pub data KeysRead (s : List ℕ) (o : Opened) (first limit : ℕ) : ℕ → ℕ → List Pair → Type 0 where
-  noKey : {i : ℕ} → KeysRead s o first limit i 0 []
-  nextKey : {i count : ℕ} {ps qs : List Pair} → KeyRead s o limit (addressRead s o first i) ps → KeysRead s o first limit (suc i) count qs
-      → KeysRead s o first limit i (suc count) (ps ++ qs)
+pub data KeysGive (s : List ℕ) (o : Opened) (first limit : ℕ) : ℕ → ℕ → List Pair → Type 0 where
+  noKey : {i : ℕ} → KeysGive s o first limit i 0 []
+  nextKey : {i count : ℕ} {ps qs : List Pair} → KeyGives s o limit (addressRead s o first i) ps → KeysGive s o first limit (suc i) count qs
+      → KeysGive s o first limit i (suc count) (ps ++ qs)
 
 -- they are one list: bytes, record, first key, count and limit leave no choice
-unfoldable pub KeysReadOne : Type 0
-KeysReadOne =
-    (s : List ℕ) (o : Opened) (first limit i count : ℕ) (ps qs : List Pair) → KeysRead s o first limit i count ps
-    → KeysRead s o first limit i count qs → ps ≡ qs
+unfoldable pub KeysGiveOne : Type 0
+KeysGiveOne =
+    (s : List ℕ) (o : Opened) (first limit i count : ℕ) (ps qs : List Pair) → KeysGive s o first limit i count ps
+    → KeysGive s o first limit i count qs → ps ≡ qs

@@ -29,7 +29,7 @@ use Rattle.locator.specs.Locator.{readable}
 use Rattle.spans.specs.Span.{Pair, valueEnd, unlessTombstone, valueAt, valueFrom, versionsStart, keyValue, nextAddress, pairsJoined, valuesFrom, pairNumbers, pairsWritten, spannedRead}
 use Rattle.spans.specs.declared.Spanned.the-variants.{Pairs, Refused}
 use Rattle.spans.specs.declared.VersionRead.{VersionRead}
-use Rattle.spans.specs.Internal.{valueRead, isRefused, isGiven, pairsOf}
+use Rattle.spans.specs.Internal.{valueRead, isFailed, isGiven, pairsOf}
 use Rattle.spans.proofs.Values.{read-given}
 
 -- ---- answers one behind the other
@@ -199,7 +199,7 @@ module _ (s : List ℕ) (o : Opened) (limit at : ℕ) where
       go false p = false-true (sym (ap isGiven (key-outside (leb-false _ _ p))) ∙ e)
 
   -- what was read of it says whether it is refused
-  pub key-told : (v : VersionRead) → valueRead s o v ≡ key → {b : Bool} → isRefused v ≡ b → isGiven key ≡ not b
+  pub key-told : (v : VersionRead) → valueRead s o v ≡ key → {b : Bool} → isFailed v ≡ b → isGiven key ≡ not b
   key-told v e r = ap isGiven (sym e) ∙ read-given s o v ∙ ap not r
 
   key-few : length (pairsOf key) ≤ 1

@@ -22,8 +22,8 @@ use Rattle.versions.specs.Version.{storedSeq, storedValue, kindIn, lengthIn, st
 use Rattle.locator.specs.Locator.{readable}
 use Rattle.spans.specs.Span.{Pair, valueEnd, unlessTombstone, valueAt, valueFrom, pairNumbers}
 use Rattle.spans.specs.declared.VersionRead.{VersionRead}
-use Rattle.spans.specs.declared.VersionRead.the-variants.{At, Absent, Refused}
-use Rattle.spans.specs.Internal.{valueRead, isRefused, isGiven, pairsOf}
+use Rattle.spans.specs.declared.VersionRead.the-variants.{At, Absent, Failed}
+use Rattle.spans.specs.Internal.{valueRead, isFailed, isGiven, pairsOf}
 
 module _ (s : List ℕ) (o : Opened) (pos limit : ℕ) where
   -- is its sequence read inside the section, and its sum below 2^64?
@@ -123,8 +123,8 @@ module _ (s : List ℕ) (o : Opened) (pos : ℕ) {top stored : ℕ} (et : top �
 
 -- ---- what was read of a key
 
-pub read-given : (s : List ℕ) (o : Opened) (v : VersionRead) → isGiven (valueRead s o v) ≡ not (isRefused v)
-unfolding isGiven valueRead isRefused
+pub read-given : (s : List ℕ) (o : Opened) (v : VersionRead) → isGiven (valueRead s o v) ≡ not (isFailed v)
+unfolding isGiven valueRead isFailed
 read-given s o (At pos) = refl
 read-given s o Absent = refl
-read-given s o Refused = refl
+read-given s o Failed = refl

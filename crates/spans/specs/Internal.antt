@@ -9,9 +9,9 @@ use Rattle.encoding.specs.Encoding.{Widths}
 use Rattle.header.specs.declared.Opened.{Opened}
 use Rattle.spans.specs.Span.{Pair, valueEnd, valueAt}
 use Rattle.spans.specs.declared.VersionRead.{VersionRead}
-use Rattle.spans.specs.declared.VersionRead.the-variants.{At, Absent, Refused}
+use Rattle.spans.specs.declared.VersionRead.the-variants.{At, Absent, Failed}
 
--- a record whose header passed questions 3 to 6 and 27
+-- what reading counts on, of a record that passed 24 and 27
 pub record Spannable (o : Opened) : Type 0 where
   pub widths : Widths (o .encoding)
   pub four : o .encoding .address ≡ 4
@@ -21,18 +21,18 @@ pub record Spannable (o : Opened) : Type 0 where
 unfoldable pub valueRead : List ℕ → Opened → VersionRead → Answer (List Pair)
 valueRead s o (At pos) = given (valueAt s o pos)
 valueRead s o Absent = given []
-valueRead s o Refused = refused 25
+valueRead s o Failed = refused 25
 
 -- a version that was read lies in the section
 unfoldable pub Inside : List ℕ → Opened → VersionRead → Type 0
 Inside s o (At pos) = pos + valueEnd (o .encoding) ≤ length s
 Inside s o Absent = Unit {0}
-Inside s o Refused = Unit {0}
+Inside s o Failed = Unit {0}
 
-unfoldable pub isRefused : VersionRead → Bool
-isRefused (At pos) = false
-isRefused Absent = false
-isRefused Refused = true
+unfoldable pub isFailed : VersionRead → Bool
+isFailed (At pos) = false
+isFailed Absent = false
+isFailed Failed = true
 
 -- was nothing refused?
 unfoldable pub isGiven : Answer (List Pair) → Bool

@@ -71,7 +71,7 @@ keyValue s o limit address h =
     ask readable s (o .arena + address) (keyHeaderLenOf (o .encoding)) otherwise refused 25 then
     valueFrom (h .versions) s o (o .arena + address + versionsStart o h) limit
 
--- the address behind that key record, kept in 32 bits
+-- the address behind that key record, modulo 2^32
 unfoldable pub nextAddress : Opened → ℕ → KeyHeader → ℕ
 nextAddress o address h = (address + versionsStart o h + h .versions * versionLenOf (o .encoding)) % 2 ^ 32
 

@@ -7,7 +7,7 @@ ghost use lib.Seq.{sets};
 ghost use Rattle.encoding.specs.Encoding.{keyHeaderLenOf};
 ghost use Rattle.arena.specs.Key.{keyHeaderAt};
 ghost use Rattle.spans.specs.Span.{valueEnd, valueAt, valueFrom, keyValue, nextAddress, valuesFrom, pairNumbers, pairsWritten, spannedRead};
-ghost use Rattle.spans.specs.Internal.{Spannable, Inside, valueRead, isRefused, isGiven, pairsOf};
+ghost use Rattle.spans.specs.Internal.{Spannable, Inside, valueRead, isFailed, isGiven, pairsOf};
 use header::Opened;
 
 // How many pairs there are, or the number of the question that failed.
@@ -20,7 +20,7 @@ pub enum Spanned {
 enum VersionRead {
     At(usize),
     Absent,
-    Refused,
+    Failed,
 }
 
 // The first of some versions within a limit. A stored number above `most` has a sum beyond 64 bits.
@@ -38,17 +38,17 @@ fn newest(section: &[u8], o: Opened, count: usize, from: usize, limit: u64) -> V
     let mut left = count;
     while 0 < left {
         if section.len() < pos + width {
-            return VersionRead::Refused;
+            return VersionRead::Failed;
         }
         let stored = num::uint(section, pos, width);
         if most < stored {
-            return VersionRead::Refused;
+            return VersionRead::Failed;
         }
         if o.min_seq + stored <= limit {
             return if pos + end <= section.len() {
                 VersionRead::At(pos)
             } else {
-                VersionRead::Refused
+                VersionRead::Failed
             };
         }
         pos += size;
@@ -67,13 +67,13 @@ fn key_read(section: &[u8], o: Opened, address: usize, limit: u64) -> VersionRea
     let pos = o.arena + address;
     let header = e.key_header();
     if section.len() < pos + header {
-        return VersionRead::Refused;
+        return VersionRead::Failed;
     }
     let h = arena::key_header_at(section, e, pos);
     newest(section, o, h.versions, pos + (header + h.suffix_len), limit)
 }
 
-// The address behind that record, in 32 bits.
+// The address behind that record, modulo 2^32.
 fn next_address(section: &[u8], o: Opened, address: usize) -> usize
     requires { ⌜ Spannable o ⌝ }
     requires { ⌜ address < 2 ^ 32 ⌝ }
@@ -86,13 +86,13 @@ fn next_address(section: &[u8], o: Opened, address: usize) -> usize
     (address + start + h.versions * e.version()) % 0x1_0000_0000
 }
 
-fn is_refused(read: VersionRead) -> bool
-    ensures { λ r. ⌜ r ≡ isRefused read ⌝ }
+fn is_failed(read: VersionRead) -> bool
+    ensures { λ r. ⌜ r ≡ isFailed read ⌝ }
 {
     match read {
         VersionRead::At(_) => false,
         VersionRead::Absent => false,
-        VersionRead::Refused => true,
+        VersionRead::Failed => true,
     }
 }
 
@@ -126,7 +126,7 @@ fn put_value(section: &[u8], o: Opened, read: VersionRead, pairs: &mut [u64], to
     match read {
         VersionRead::At(pos) => put_version(section, o, pos, pairs, to),
         VersionRead::Absent => to,
-        VersionRead::Refused => to,
+        VersionRead::Failed => to,
     }
 }
 
@@ -139,7 +139,7 @@ fn keys_read(section: &[u8], o: Opened, count: u64, address: usize, limit: u64) 
     let mut at = address;
     let mut left = count;
     while 0 < left {
-        if is_refused(key_read(section, o, at, limit)) {
+        if is_failed(key_read(section, o, at, limit)) {
             return false;
         }
         at = next_address(section, o, at);
@@ -177,7 +177,7 @@ fn put_values(
 }
 
 // The value of the key whose record stands at an address: one key is read before its pair is written.
-pub fn key_value(
+pub fn one_value(
     section: &[u8],
     o: Opened,
     address: usize,
@@ -191,14 +191,14 @@ pub fn key_value(
         × (now (pairs .exit) ≡ pairsWritten (valuesFrom 1 (now (section .entry)) o limit address) (now (pairs .entry))) ⌝ }
 {
     let read = key_read(section, o, address, limit);
-    if is_refused(read) {
+    if is_failed(read) {
         return Spanned::Refused(25);
     }
     Spanned::Pairs(put_value(section, o, read, pairs, 0) as u64 / 2)
 }
 
 // The values of some keys, one key record behind the other from an address on. All is read before a pair is written.
-pub fn key_values(
+pub fn values_from(
     section: &[u8],
     o: Opened,
     count: u64,

@@ -48,7 +48,7 @@ pub fn keys_whole(section: &[u8], o: Opened, first: u64, count: u64) -> bool
         let pos = o.arena + at + lengths;
         let suffix_len = words::masked(section, pos, e.key, key_mask) as usize;
         let versions = words::masked(section, pos + e.key, e.count, count_mask) as usize;
-        // Gathered, not asked: behind a branch on `at == next` a key would wait for the key before it.
+        // No branch here: behind one on `at == next` the compiler takes `next` for `at`, and each load needs the one before.
         sound = sound & (at == next);
         next = at + (header + suffix_len) + versions * size;
         table += 4;

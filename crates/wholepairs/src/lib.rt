@@ -12,7 +12,7 @@ use encoding::Encoding;
 use header::Opened;
 
 // Writes the value of the version at a place, unless it is a tombstone, and answers where the next pair goes.
-fn put_value(section: &[u8], o: Opened, pos: usize, pairs: &mut [u64], to: usize) -> usize
+fn put_version(section: &[u8], o: Opened, pos: usize, pairs: &mut [u64], to: usize) -> usize
     requires { ⌜ Spannable o ⌝ }
     requires { ⌜ pos + versionLenOf (o .encoding) + 8 ≤ length (now section) ⌝ }
     requires { ⌜ to + 2 ≤ length (now pairs) ⌝ }
@@ -54,7 +54,7 @@ fn put_newest(
     let mut left = versions;
     while 0 < left {
         if o.min_seq + words::masked(section, pos, e.seq, mask) <= limit {
-            return put_value(section, o, pos, pairs, to);
+            return put_version(section, o, pos, pairs, to);
         }
         pos += size;
         left -= 1;

@@ -21,8 +21,8 @@ u32-at-requires c κs = search needs
 cast-address : tie.Need-cast-address
 cast-address c = search needs
 
-key-value-requires : tie.Need-key-value-requires
-key-value-requires c κs = search needs
+one-value-requires : tie.Need-one-value-requires
+one-value-requires c κs = search needs
 
 same-length : tie.Need-same-length
 same-length c = search needs
@@ -31,7 +31,7 @@ returns : tie.Need-returns
 returns c =
     let s = c .before .before .before .before .before .before .before .before .before in
     let a = s .args in
-    told-of (read-from (a .section .now) (a .o) (a .first) (a .limit) (s .pre .0 .four) (c .before .before .before .before .before .u32-at .ensures) (search needs)) (a .pairs .now) (c .before .before .key-value .ensures)
+    told-of (read-from (a .section .now) (a .o) (a .first) (a .limit) (s .pre .0 .four) (c .before .before .before .before .before .u32-at .ensures) (search needs)) (a .pairs .now) (c .before .before .one-value .ensures)
 
 keys-whole-requires : tie.Need-keys-whole-requires
 keys-whole-requires c κs = search needs
@@ -53,8 +53,8 @@ returns-2 c =
     let put = c .before .before .put-whole .ensures in
     given-told _ (a .pairs .now) (whole-given (a .section .now) (a .o) (a .first) (a .count) whole (λ n. known .given n .fits) (s .pre .0 .four) (a .limit)) (put .0) (put .1)
 
-key-values-requires : tie.Need-key-values-requires
-key-values-requires c κs = search needs
+values-from-requires : tie.Need-values-from-requires
+values-from-requires c κs = search needs
 
 same-length-3 : tie.Need-same-length-3
 same-length-3 c = search needs
@@ -63,7 +63,7 @@ returns-3 : tie.Need-returns-3
 returns-3 c =
     let s = c .before .before .before .before .before .before .before .before .before .before .before in
     let a = s .args in
-    told-of (read-from (a .section .now) (a .o) (a .first) (a .limit) (s .pre .0 .four) (c .before .before .before .before .before .before .before .u32-at .ensures) refl) (a .pairs .now) (c .before .before .key-values .ensures)
+    told-of (read-from (a .section .now) (a .o) (a .first) (a .limit) (s .pre .0 .four) (c .before .before .before .before .before .before .before .u32-at .ensures) refl) (a .pairs .now) (c .before .before .values-from .ensures)
 
 pub scan-values-spec : {M : Type 1} → statement M
 scan-values-spec =
@@ -74,13 +74,13 @@ scan-values-spec =
     add-table-2
     u32-at-requires
     cast-address
-    key-value-requires
+    one-value-requires
     same-length
     returns
     keys-whole-requires
     put-whole-requires
     same-length-2
     returns-2
-    key-values-requires
+    values-from-requires
     same-length-3
     returns-3)

@@ -20,15 +20,15 @@ loop-holds c = (c .before .pre .1, refl)
 key-read-requires : tie.Need-key-read-requires Inv-loop μ-loop
 key-read-requires c κs = (c .before .before .before .pre .0, c .before .loop .inv .0)
 
-is-refused-requires : tie.Need-is-refused-requires Inv-loop μ-loop
-is-refused-requires c κs = search needs
+is-failed-requires : tie.Need-is-failed-requires Inv-loop μ-loop
+is-failed-requires c κs = search needs
 
 returns : tie.Need-returns Inv-loop μ-loop
 unfolding both
 returns c =
     let s = c .before .before .before .before .before .before in
     let loop = c .before .before .before .before .loop in
-    let key = key-told (s .args .section .now) (s .args .o) (s .args .limit) (loop .at) _ (c .before .before .key-read .ensures .0) (sym (c .before .is-refused .ensures) ∙ c .if1 .taken) in
+    let key = key-told (s .args .section .now) (s .args .o) (s .args .limit) (loop .at) _ (c .before .before .key-read .ensures .0) (sym (c .before .is-failed .ensures) ∙ c .if1 .taken) in
     let all = key-judged (s .args .section .now) (s .args .o) (s .args .limit) (loop .at) (loop .left) (search needs) in
     sym (rw key at all) ∙ loop .inv .1
 
@@ -36,7 +36,7 @@ next-address-requires : tie.Need-next-address-requires Inv-loop μ-loop
 next-address-requires c κs =
     let s = c .before .before .before .before .before .before in
     let loop = c .before .before .before .before .loop in
-    let key = key-told (s .args .section .now) (s .args .o) (s .args .limit) (loop .at) _ (c .before .before .key-read .ensures .0) (sym (c .before .is-refused .ensures) ∙ c .if1 .left) in
+    let key = key-told (s .args .section .now) (s .args .o) (s .args .limit) (loop .at) _ (c .before .before .key-read .ensures .0) (sym (c .before .is-failed .ensures) ∙ c .if1 .left) in
     (s .pre .0, (loop .inv .0, key-inside (s .args .section .now) (s .args .o) (s .args .limit) (loop .at) key))
 
 sub-left : tie.Need-sub-left Inv-loop μ-loop
@@ -50,7 +50,7 @@ unfolding both
 loop-again c =
     let s = c .before .before .before .before .before .before .before in
     let loop = c .before .before .before .before .before .loop in
-    let key = key-told (s .args .section .now) (s .args .o) (s .args .limit) (loop .at) _ (c .before .before .before .key-read .ensures .0) (sym (c .before .before .is-refused .ensures) ∙ c .before .if1 .left) in
+    let key = key-told (s .args .section .now) (s .args .o) (s .args .limit) (loop .at) _ (c .before .before .before .key-read .ensures .0) (sym (c .before .before .is-failed .ensures) ∙ c .before .if1 .left) in
     let all = key-judged (s .args .section .now) (s .args .o) (s .args .limit) (loop .at) (loop .left) (search needs) in
     let next = c .next-address .ensures in
     (next .1, ap (λ (a : ℕ). isGiven (valuesFrom (loop .left - 1) (s .args .section .now) (s .args .o) (s .args .limit) a)) (next .0) ∙ sym (rw key at all) ∙ loop .inv .1)
@@ -70,7 +70,7 @@ keys-read-spec =
     μ-loop
     loop-holds
     key-read-requires
-    is-refused-requires
+    is-failed-requires
     returns
     next-address-requires
     sub-left

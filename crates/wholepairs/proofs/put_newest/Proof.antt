@@ -56,8 +56,8 @@ add-if1 c =
     let e = stored-sum (args .section .now) (args .o) (loop .pos) (masked .ensures) in
     omega (arith, pre .1 .0 (loop .pos))
 
-put-value-requires : tie.Need-put-value-requires Inv-loop μ-loop
-put-value-requires c κs =
+put-version-requires : tie.Need-put-version-requires Inv-loop μ-loop
+put-version-requires c κs =
     let loop = c .before .before .before .before .before .loop in
     let args = c .before .before .before .before .before .before .before .before .before .before .before .args in
     let pre = c .before .before .before .before .before .before .before .before .before .before .before .pre in
@@ -66,16 +66,16 @@ put-value-requires c κs =
 
 same-length : tie.Need-same-length Inv-loop μ-loop
 same-length c =
-    let put-value = c .before .before .put-value in
+    let put-version = c .before .before .put-version in
     let loop = c .before .before .before .before .before .before .before .before .loop in
     let args = c .before .before .before .before .before .before .before .before .before .before .before .before .before .before .args in
-    ap length (put-value .ensures .1) ∙ length-sets (loop .pairs) (args .to)
+    ap length (put-version .ensures .1) ∙ length-sets (loop .pairs) (args .to)
     (pairNumbers (valueAt (args .section .now) (args .o) (loop .pos))) ∙ ap length (loop .inv .0)
 
 returns : tie.Need-returns Inv-loop μ-loop
 unfolding pairsOf
 returns c =
-    let put-value = c .before .before .put-value in
+    let put-version = c .before .before .put-version in
     let masked = c .before .before .before .before .before .before .masked in
     let loop = c .before .before .before .before .before .before .before .before .loop in
     let args = c .before .before .before .before .before .before .before .before .before .before .before .before .before .before .args in
@@ -83,8 +83,8 @@ returns c =
     let e = stored-sum (args .section .now) (args .o) (loop .pos) (masked .ensures) in
     let v = sym (ap pairsOf (sym (loop .inv .2) ∙ room-within (args .section .now) (args .o) (loop .pos) (args .limit) (loop .left) (pre .1 .0)
     (search needs) (loop .inv .1) (omega arith))) in (
-      put-value .ensures .0 ∙ ap (λ (ps : List Pair). args .to + 2 * length ps) v,
-      put-value .ensures .1 ∙ ap₂ (λ (l : List ℕ)
+      put-version .ensures .0 ∙ ap (λ (ps : List Pair). args .to + 2 * length ps) v,
+      put-version .ensures .1 ∙ ap₂ (λ (l : List ℕ)
           (ps : List Pair). sets l (args .to) (pairNumbers ps)) (loop .inv .0) v,
     )
 
@@ -146,7 +146,7 @@ put-newest-spec =
     loop-holds
     masked-requires
     add-if1
-    put-value-requires
+    put-version-requires
     same-length
     returns
     add-pos

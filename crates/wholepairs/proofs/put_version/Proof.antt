@@ -4,8 +4,8 @@ use Rattle.encoding.specs.Encoding.{versionLenOf}
 use Rattle.arena.proofs.Reading.{widths-read}
 use Rattle.spans.proofs.Values.{none-put, pair-put}
 use borrow.Author.Needs.{needs}
-use Rattle.wholepairs.proofs.put_value.Statement.{statement}
-use Rattle.wholepairs.proofs.put_value.Tie as tie
+use Rattle.wholepairs.proofs.put_version.Statement.{statement}
+use Rattle.wholepairs.proofs.put_version.Tie as tie
 
 add-value : tie.Need-add-value
 unfolding versionLenOf
@@ -85,8 +85,8 @@ returns-2 c =
     pair-put (args .section .now) (args .o) (args .pos) (tombstone .ensures) (masked .ensures) (search needs) (u32-at .ensures) (pre .0 .four)
     (args .pairs .now) (args .to)
 
-pub put-value-spec : {M : Type 1} → statement M
-put-value-spec =
+pub put-version-spec : {M : Type 1} → statement M
+put-version-spec =
     tie.close
     (tie.spec
     add-value

@@ -1,8 +1,8 @@
 use Rattle.lookup.proofs.Tests.{said-yes, said-no}
 use Rattle.spans.proofs.Keys.{keys-25, refused-told, given-told}
 use borrow.Author.Needs.{needs}
-use Rattle.spans.proofs.key_values.Statement.{statement}
-use Rattle.spans.proofs.key_values.Tie as tie
+use Rattle.spans.proofs.values_from.Statement.{statement}
+use Rattle.spans.proofs.values_from.Tie as tie
 
 keys-read-requires : tie.Need-keys-read-requires
 keys-read-requires c κs = search needs
@@ -26,5 +26,5 @@ returns-2 c =
     let put = c .before .before .put-values .ensures in
     given-told _ (args .pairs .now) (said-yes (c .before .before .before .before .before .keys-read .ensures) (c .before .before .before .before .if1 .left)) (put .0) (put .1)
 
-pub key-values-spec : {M : Type 1} → statement M
-key-values-spec = tie.close (tie.spec keys-read-requires returns put-values-requires same-length returns-2)
+pub values-from-spec : {M : Type 1} → statement M
+values-from-spec = tie.close (tie.spec keys-read-requires returns put-values-requires same-length returns-2)
