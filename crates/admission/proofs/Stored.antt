@@ -127,11 +127,3 @@ stored-value «data» blocks e s =
 block-bytes : («data» blocks : List ℕ) (i : ℕ) → Bytes «data» → Bytes (blockAt «data» blocks i)
 unfolding blockAt
 block-bytes «data» blocks i b = bytes-take (lengthAt blocks i) (drop (offsetAt blocks i) «data») (bytes-drop (offsetAt blocks i) «data» b)
-
--- keys of bytes stand in data of bytes
-pub stored-key-bytes : («data» blocks : List ℕ) → Bytes «data» → (e : Entry) → List·Memᴰ e (storeEntries «data» blocks) → Bytes (e .key)
-unfolding inData
-stored-key-bytes «data» blocks b e i =
-    let s = stored-in «data» blocks e i in
-    subst (λ (x : Entry). Bytes (x .key)) (s .same)
-    (block-key-bytes (blockAt «data» blocks (s .pair)) (block-bytes «data» blocks (s .pair) b) (s .inner) (s .member))

@@ -33,8 +33,3 @@ pub record PackedLayout (s : List ℕ) (o : Opened) (bytes : List ℕ) : Type 0 
   pub arena : take (keyRecordsEnd s o - o .arena) (drop (packedArena o) bytes) ≡ take (keyRecordsEnd s o - o .arena) (drop (o .arena) s)
   -- the last five bytes as they were, not sealed again
   pub last : drop (length bytes - 5) bytes ≡ drop (length s - 5) s
-
--- for proofs alone: `unfolding layout-defs` opens the definitions of this file
-unfoldable pub layout-defs : ℕ
-unfolding pilotNumber packedArena packedLength
-layout-defs = 0

@@ -1,7 +1,7 @@
 -- What follows where the records agree with the arena: keys, addresses and sequences are in order, every read lies in the arena, and
 -- every record is a version of a key.
 -- Assumes nothing.
-use mathlib.Core.Path.{_≡_, refl, sym, ap, _∙_, subst}
+use mathlib.Core.Path.{_≡_, sym, ap, _∙_, subst}
 use mathlib.Core.List.{List, List·Memᴰ}
 use mathlib.Core.Bool.{true}
 use Prim.Native.Nat.{ℕ, zero, suc, _+_, _*_, _<_, _≤_}

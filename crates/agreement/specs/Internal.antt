@@ -2,7 +2,6 @@
 use mathlib.Core.Path.{_≡_}
 use mathlib.Core.Bool.{true}
 use mathlib.Core.List.{List}
-use Prim.Native.Nat.{ℕ}
 use Rattle.num.specs.Answer.{given}
 use Rattle.block.specs.Walk.{Entry}
 use Rattle.validate.specs.Walk.{Inputs, Progress, entriesFrom}

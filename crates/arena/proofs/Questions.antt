@@ -1,12 +1,11 @@
 -- Question 16 in plain terms.
 -- Assumes nothing.
-use mathlib.Core.Path.{_≡_, refl, sym, ap, _∙_}
-use mathlib.Core.Bool.{true, false, not}
+use mathlib.Core.Path.{_≡_, ap}
+use mathlib.Core.Bool.{true, not}
 use Prim.Native.Nat.{ℕ, _+_, _*_, _%_, _<_, _≤_}
-use native.Mathlib.Omega.{arith}
-use lib.Dec.{eqb, leb, ltb}
+use lib.Dec.{eqb, leb}
 use borrow.Author.Tests.{leb-true, le-leb, ltb-true, lt-ltb, eqb-true, eq-eqb, not-false}
-use Rattle.num.specs.Choice.{both, either}
+use Rattle.num.specs.Choice.{either}
 use Rattle.num.proofs.Choice.{both-true, true-both, same-truth, either-second, second-either}
 use Rattle.sstable.specs.Limits.{maxKeyBytes}
 use Rattle.encoding.specs.Encoding.{group, keyHeaderLenOf, versionLenOf}

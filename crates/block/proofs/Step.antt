@@ -5,7 +5,6 @@ use mathlib.Core.List.{List, _++_}
 use mathlib.Core.Bool.{Bool, true, false}
 use Prim.Native.Nat.{ℕ, _+_, _-_, _<_, _≤_}
 use native.Mathlib.Omega.{arith}
-use lib.Dec.{leb}
 use lib.ListN.{length, getD, take, drop, length-append, length-drop}
 use lib.Seq.{sets, length-take-le, take-take}
 use borrow.Author.Tests.{leb-true}

@@ -4,13 +4,11 @@ use mathlib.Core.Path.{_≡_, refl, sym, ap, _∙_, subst}
 use mathlib.Core.List.{List, [], _∷_, _++_}
 use Prim.Native.Nat.{ℕ, zero, suc, _+_, _*_, _-_, _%_, _<_, _≤_}
 use native.Mathlib.Omega.{arith}
-use lib.ListN.{length, getD, drop, length-append, length-drop, List·getD-append}
+use lib.ListN.{length, drop, length-append, length-drop, List·getD-append}
 use lib.Seq.{getD-append-add, getD-drop}
 use borrow.Author.Tests.{eq-eqb, le-leb}
 use Rattle.num.specs.Answer.{Answer, given, refused}
 use Rattle.num.specs.Choice.{if_then_else_}
-use Rattle.block.specs.declared.Verified.{Verified}
-use Rattle.block.specs.declared.Verified.the-variants.{Sound}
 use Rattle.block.proofs.Sound.{sound-exactly}
 use Rattle.opening.specs.Open.{blockBytes}
 use Rattle.blocks.specs.declared.BlockRecord.{BlockRecord}

@@ -14,7 +14,6 @@ use Rattle.num.specs.Answer.{Answer, given, refused}
 use Rattle.num.specs.Choice.{if_then_else_}
 use Rattle.num.proofs.Choice.{if-first}
 use Rattle.blocks.specs.declared.BlockRecord.{BlockRecord}
-use Rattle.blocks.specs.declared.Filled.{Filled}
 use Rattle.blocks.specs.declared.Filled.the-variants.{Wrote, Refused}
 use Rattle.blocks.specs.Blocks.{recordsFrom, placedFor, fillOf, filledRead, filledPlaces, noRecord}
 use Rattle.blocks.specs.Internal.{answerNumber, recordAt, Passed, writtenOf, writtenIn}

@@ -4,7 +4,7 @@ use mathlib.Core.Path.{_≡_, refl}
 use mathlib.Core.Bool.{true, false}
 use mathlib.Core.List.{List, [], _∷_}
 use Prim.Native.Nat.{ℕ}
-use lib.ListN.{length, replicate}
+use lib.ListN.{replicate}
 use Rattle.num.specs.Answer.{Answer, given, refused}
 use Rattle.num.specs.Choice.{choice-defs}
 use Rattle.num.specs.Number.{leAt, leBytes}

@@ -1,8 +1,7 @@
 -- Construction over the two keys of document 01's worked store, computed.
 -- Assumes nothing.
 use mathlib.Core.Path.{_≡_, refl}
-use mathlib.Core.List.{List, [], _∷_}
-use Prim.Native.Nat.{ℕ}
+use mathlib.Core.List.{[], _∷_}
 use Rattle.num.specs.Answer.{given}
 use Rattle.num.specs.Choice.{choice-defs}
 use Rattle.num.specs.Number.{leAt}

@@ -1,5 +1,4 @@
 -- Not on the reading path: what the contracts of private functions speak of.
-use mathlib.Core.Path.{_≡_}
 use mathlib.Core.Bool.{Bool, true, false}
 use mathlib.Core.List.{List, [], _∷_}
 use mathlib.Core.Option.{Option, some, none}
@@ -41,11 +40,6 @@ singlesIn hs (x ∷ xs) = (if eqb (sizeOf hs x) 1 then 1 else 0) + singlesIn hs 
 unfoldable pub servedAs : Bool → Placement → Option Placement
 servedAs true t = some t
 servedAs false t = none
-
--- for proofs alone: `unfolding internal-construct-defs` opens the definitions of this file
-unfoldable pub internal-construct-defs : ℕ
-unfolding freeTo freeCount singlesIn servedAs
-internal-construct-defs = 0
 
 -- for proofs alone: `unfolding place-defs` opens the places of the scratch in numbers
 unfoldable pub place-defs : ℕ

@@ -45,7 +45,7 @@ pub fn begins(section: &[u8]) -> bool
     stands_at(section, 0, &Encoding::MAGIC)
 }
 
-pub fn has_flag(flag: u32, flags: u32) -> bool
+fn has_flag(flag: u32, flags: u32) -> bool
     requires { ⌜ 0 < flag ⌝ }
     ensures { λ r. ⌜ r ≡ hasFlag flag flags ⌝ }
 {
@@ -67,7 +67,7 @@ fn encoding_at(section: &[u8]) -> Encoding
 }
 
 // The header's numbers, without a scan place.
-pub fn fields(section: &[u8]) -> Opened
+fn fields(section: &[u8]) -> Opened
     requires { ⌜ 64 ≤ length (now section) ⌝ }
     ensures { λ r. ⌜ r ≡ fieldsOf (now (section .entry)) ⌝ }
 {
@@ -149,7 +149,7 @@ pub fn allowed_widths(e: Encoding) -> bool
 }
 
 // Question 4, but for the comparison with the section's length.
-pub fn dimensions(o: Opened, flags: u32) -> bool
+fn dimensions(o: Opened, flags: u32) -> bool
     ensures { λ r. ⌜ r ≡ dimensions o flags ⌝ }
 {
     let n = o.count;

@@ -95,8 +95,3 @@ isNothing (Refusal n) = false
 isNothing (Names n) = false
 isNothing (Records n p) = false
 isNothing Nothing = true
-
--- for proofs alone: `unfolding left-defs` opens the definitions of this file
-unfoldable pub left-defs : ℕ
-unfolding entriesFrom entriesLeft textLeft placeSteps stepsLeft isNothing
-left-defs = 0

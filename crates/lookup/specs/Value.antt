@@ -21,8 +21,3 @@ unfoldable pub valueNumber : List ℕ → ℕ → ℕ → ℕ
 valueNumber «data» offset len =
     ask valueInside «data» offset len otherwise 26 then
     0
-
--- for proofs alone: `unfolding value-defs` opens the definitions of this file
-unfoldable pub value-defs : ℕ
-unfolding valueInside valuePart valueNumber
-value-defs = 0

@@ -7,8 +7,8 @@ use Prim.Native.Nat.{ℕ, zero, suc, _+_, _-_, _<_, _≤_}
 use native.Mathlib.Nat.{add-zero, not-suc-le-zero}
 use native.Mathlib.Omega.{arith}
 use lib.Dec.{lit<}
-use lib.ListN.{length, getD, set, take, drop, replicate, length-append, length-drop, List·getD-append}
-use lib.Seq.{sets, sets-eq, getD-drop, getD-take, getD-set-other, drop-drop, take-add, take-take, take-at, drop-at, take-set-le, drop-set-lt, drop-set-add, length-take-le}
+use lib.ListN.{length, getD, set, take, drop, replicate, length-drop, List·getD-append}
+use lib.Seq.{sets, sets-eq, getD-drop, getD-take, drop-drop, take-add, take-take, take-at, drop-at, take-set-le, drop-set-lt, drop-set-add, length-take-le}
 use Rattle.num.specs.Number.{Bytes}
 
 module _ {ℓ} {A : Type ℓ} where
@@ -25,10 +25,6 @@ module _ {ℓ} {A : Type ℓ} where
   -- the elements from the place on are those of what stands there
   pub standing-at : (l t rest : List A) (place k : ℕ) (d : A) → drop place l ≡ t ++ rest → k < length t → getD l (place + k) d ≡ getD t k d
   standing-at l t rest place k d e h = sym (getD-drop place l k d) ∙ ap (λ (m : List A). getD m k d) e ∙ List·getD-append t rest d k h
-
-  -- what stands at a place lies inside
-  pub standing-inside : (l t rest : List A) (place : ℕ) → drop place l ≡ t ++ rest → place ≤ length l → place + length t + length rest ≡ length l
-  standing-inside l t rest place e h = omega (arith, length-drop place l, ap length e, length-append t rest)
 
   -- ---- the members of a list are its elements by index
 
@@ -71,18 +67,6 @@ module _ {ℓ} {A : Type ℓ} where
   sets-append (a ∷ w) v l i =
       let e : i + suc (length w) ≡ suc i + length w = omega arith in
       ap (λ (n : ℕ). sets (sets (set l i a) (suc i) w) n v) e ∙ sets-append w v (set l i a) (suc i)
-
-  -- an element before a run of stores stays
-  pub getD-sets-before : (vs l : List A) (i k : ℕ) (d : A) → k < i → getD (sets l i vs) k d ≡ getD l k d
-  getD-sets-before [] l i k d h = refl
-  getD-sets-before (a ∷ vs) l i k d h =
-      getD-sets-before vs (set l i a) (suc i) k d (omega arith) ∙ getD-set-other l i k a d (λ e. omega arith)
-
-  -- an element behind a run of stores stays
-  pub getD-sets-behind : (vs l : List A) (i k : ℕ) (d : A) → i + length vs ≤ k → getD (sets l i vs) k d ≡ getD l k d
-  getD-sets-behind [] l i k d h = refl
-  getD-sets-behind (a ∷ vs) l i k d h =
-      getD-sets-behind vs (set l i a) (suc i) k d (omega arith) ∙ getD-set-other l i k a d (λ e. omega arith)
 
   -- a run of stores stands where it was stored, before what stood behind it
   pub standing-sets : (vs l : List A) (i : ℕ) → i + length vs ≤ length l → drop i (sets l i vs) ≡ vs ++ drop (i + length vs) l

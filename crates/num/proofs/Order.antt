@@ -11,7 +11,7 @@ use lib.Dec.{eqb, ltb}
 use lib.ListN.{length, getD, take, drop, length-drop, take-append-drop, drop-of-length-le}
 use lib.Seq.{take-all, drop-cons, drop-drop, getD-take, getD-drop}
 use borrow.Author.Tests.{eqb-true, eqb-false, eq-eqb, ne-eqb, ltb-true, ltb-false, lt-ltb, le-ltb}
-use Rattle.num.specs.Choice.{if_then_else_, both}
+use Rattle.num.specs.Choice.{if_then_else_}
 use Rattle.num.specs.Order.{lessThan, commonPrefixLen, equalBytes}
 use Rattle.num.proofs.Choice.{false-true, both-true, true-both}
 

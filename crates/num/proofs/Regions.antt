@@ -5,11 +5,11 @@
 use mathlib.Core.Path.{_≡_, refl, sym, ap, _∙_}
 use mathlib.Core.Bool.{Bool, true, false}
 use mathlib.Core.List.{List}
-use Prim.Native.Nat.{ℕ, _+_, _-_, _<_, _≤_}
+use Prim.Native.Nat.{ℕ, _+_, _<_, _≤_}
 use native.Mathlib.Omega.{arith}
 use lib.Dec.{eqb}
 use lib.ListN.{length, getD, set, take, drop, length-set}
-use lib.Seq.{getD-set-same, getD-set-other, drop-set-lt, drop-drop, ext-getD}
+use lib.Seq.{getD-set-same, getD-set-other, drop-set-lt, ext-getD}
 use borrow.Author.Tests.{eqb-true, eqb-false}
 use Rattle.num.proofs.Lists.{part-length, part-at}
 use Rattle.num.specs.Internal.{RegionHolds, Frame}
@@ -70,12 +70,3 @@ frame-none = record { size = refl; behind = refl }
 
 pub frame-set : {m : ℕ} {s₀ s : List ℕ} → Frame m s₀ s → (i v : ℕ) → i < m → Frame m s₀ (set s i v)
 frame-set {m} {s₀} {s} f i v h = record { size = length-set s i v ∙ f .size; behind = drop-set-lt m s i v h ∙ f .behind }
-
--- two writers one after the other, the second with the wider reach
-pub frame-then : {m n : ℕ} {s₀ s₁ s₂ : List ℕ} → Frame m s₀ s₁ → Frame n s₁ s₂ → m ≤ n → Frame n s₀ s₂
-frame-then {m} {n} {s₀} {s₁} f g h = record { size = g .size ∙ f .size; behind = g .behind ∙ wider }
-  where
-    wider : drop n s₁ ≡ drop n s₀
-    wider =
-        let e : n ≡ m + (n - m) = omega arith in
-        ap (λ (k : ℕ). drop k s₁) e ∙ sym (drop-drop (n - m) m s₁) ∙ ap (drop (n - m)) (f .behind) ∙ drop-drop (n - m) m s₀ ∙ ap (λ (k : ℕ). drop k s₀) (sym e)

@@ -1,7 +1,7 @@
 -- A builder's sixteen numbers are read back as itself.
 -- Assumes nothing.
 use mathlib.Core.Path.{_≡_, refl, sym, _∙_}
-use mathlib.Core.List.{List, [], _∷_}
+use mathlib.Core.List.{List}
 use Prim.Native.Nat.{ℕ, _≤_}
 use native.Mathlib.Omega.{arith}
 use lib.ListN.{length}
@@ -9,7 +9,6 @@ use lib.Seq.{sets, length-sets, take-all}
 use Rattle.num.specs.Choice.{if_then_else_, both}
 use Rattle.num.proofs.Lists.{part-sets-same}
 use Rattle.builder.specs.declared.Builder.{Builder}
-use Rattle.builder.specs.Record.{emptyBuilder}
 use Rattle.numbers.specs.BuilderNumbers.{builderNumbers, isBuilderNumbers, usedIn, builderIn}
 
 pub builder-read : (b : Builder) → builderIn (builderNumbers b) ≡ b
@@ -22,8 +21,3 @@ unfolding builderNumbers
 builder-stands before b h =
     let all : length (sets before 0 (builderNumbers b)) ≤ 16 = omega (arith, length-sets before 0 (builderNumbers b)) in
     sym (take-all 16 (sets before 0 (builderNumbers b)) all) ∙ part-sets-same (builderNumbers b) before 0 (omega arith)
-
--- the empty builder is sixteen zeros
-pub empty-numbers : builderNumbers emptyBuilder ≡ 0 ∷ 0 ∷ 0 ∷ 0 ∷ 0 ∷ 0 ∷ 0 ∷ 0 ∷ 0 ∷ 0 ∷ 0 ∷ 0 ∷ 0 ∷ 0 ∷ 0 ∷ 0 ∷ []
-unfolding builderNumbers emptyBuilder
-empty-numbers = refl

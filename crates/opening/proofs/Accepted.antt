@@ -26,7 +26,7 @@ use Rattle.arena.specs.Internal.{Readable, Inside}
 use Rattle.validate.specs.declared.Carried.{Carried}
 use Rattle.opening.specs.declared.BlocksOpened.{BlocksOpened}
 use Rattle.opening.specs.declared.BlocksOpened.the-variants as blocks-opened
-use Rattle.opening.specs.Open.{pilotsInside, startAt, startOf, PairsEnd, pairsFrom, endsTogether, prefixesCounted, endFor, inputsOf, contentsOf, trailedHeader, checkedHeaderOf}
+use Rattle.opening.specs.Open.{pilotsInside, startAt, startOf, pairsFrom, endsTogether, prefixesCounted, endFor, inputsOf, contentsOf, trailedHeader, checkedHeaderOf}
 use Rattle.validate.specs.Internal.{inputsWith, progressIn, Ready}
 use Rattle.opening.specs.Internal.{endedFor}
 use Rattle.opening.proofs.Pilots.{pilots-each, pilot-slot}

@@ -17,7 +17,7 @@ use Rattle.block.specs.declared.BlockMeta.{BlockMeta}
 use Rattle.block.specs.declared.Verified.{Verified}
 use Rattle.block.specs.declared.Verified.the-variants.{Sound, Unsound}
 use Rattle.block.specs.Verify.{verifyOf, verifiedNumber}
-use Rattle.block.specs.Walk.{Entry, WalkEnd, atEnd, stopped, walkAt, recordsOf}
+use Rattle.block.specs.Walk.{WalkEnd, atEnd, stopped, walkAt, recordsOf}
 use Rattle.block.proofs.Walk.{records-sound}
 use Rattle.block.proofs.Sound.{sound-exactly}
 use Rattle.arena.specs.Internal.{Readable, Inside}
@@ -25,7 +25,7 @@ use Rattle.header.specs.declared.Opened.{Opened}
 use Rattle.validate.specs.declared.Carried.{Carried}
 use Rattle.validate.specs.declared.BlockOpened.{BlockOpened}
 use Rattle.validate.specs.declared.BlockOpened.the-variants.{Passed, Refused}
-use Rattle.validate.specs.Walk.{Inputs, Progress, entriesFrom, walkEnded, recordsAsked}
+use Rattle.validate.specs.Walk.{Inputs, Progress, walkEnded, recordsAsked}
 use Rattle.opening.specs.Open.{PairsEnd, blockBytes, blockFor, blockAsked, pairFits, pairsFrom}
 use Rattle.validate.specs.Internal.{inputsWith, progressIn, Ready, blockHeld, answerFor}
 use Rattle.validate.proofs.Entries.{entries-inside}

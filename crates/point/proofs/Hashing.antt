@@ -11,7 +11,7 @@ use lib.ListN.{length, getD}
 use Rattle.num.specs.Number.{Bytes, leAt}
 use Rattle.num.proofs.Number.{leAt-lt, leAt-more, leAt-split}
 use Rattle.num.specs.Wrapping.{mulMod}
-use Rattle.point.specs.Hash.{xorShift, mixOf, hashChunk, chunksOf, tailOf, hashOf, fingerprintOf}
+use Rattle.point.specs.Hash.{xorShift, mixOf, hashChunk, chunksOf, tailOf, fingerprintOf}
 
 -- a turn of the loop: what is left from the next chunk on is what was left before
 pub chunks-more : (key : List ℕ) (n at h : ℕ) → 8 ≤ n - at → chunksOf ((n - (at + 8)) / 8) key (at + 8) (hashChunk h (leAt key at 8)) ≡ chunksOf ((n - at) / 8) key at h
@@ -89,11 +89,6 @@ xorShift-lt h k p = xor-lt 64 h (h / 2 ^ k) p (lt-of-le-of-lt (shr-le h k) p)
 pub mix-lt : (h : ℕ) → mixOf h < 2 ^ 64
 unfolding mixOf
 mix-lt h = xorShift-lt _ 31 (product-lt (xorShift (mulMod (xorShift h 30) 0xbf58476d1ce4e5b9) 27) 0x94d049bb133111eb)
-
--- a hash has 64 bits
-pub hash-lt : (key : List ℕ) (seed : ℕ) → hashOf key seed < 2 ^ 64
-unfolding hashOf
-hash-lt key seed = mix-lt _
 
 -- a fingerprint has 16 bits
 pub fingerprint-lt : (h : ℕ) → fingerprintOf h < 2 ^ 16

@@ -3,7 +3,7 @@
 use mathlib.Core.Path.{_≡_, refl, sym, ap, _∙_, subst}
 use mathlib.Core.List.{List}
 use Prim.Native.Nat.{ℕ}
-use Rattle.num.specs.Answer.{Answer, given, refused}
+use Rattle.num.specs.Answer.{Answer}
 use Rattle.construction.specs.Construct.{Constructed}
 use Rattle.construction.specs.Scratch.{placementIn}
 use Rattle.construct.specs.declared.Built.{Built}

@@ -8,7 +8,7 @@ use lib.ListN.{length, getD, take, drop}
 use lib.Seq.{sets}
 use Rattle.num.specs.Answer.{Answer, given, refused}
 use Rattle.construction.specs.Construct.{Placement, Constructed}
-use Rattle.num.specs.Choice.{if_then_else_, both, either}
+use Rattle.num.specs.Choice.{if_then_else_, either}
 use Rattle.sstable.specs.Kind.{kindNumber}
 use Rattle.block.specs.declared.Verified.{Verified}
 use Rattle.block.specs.declared.Verified.the-variants.{Sound, Unsound}
@@ -100,8 +100,3 @@ seedWritten (refused n) before = before
 unfoldable pub placedAs : Answer Constructed → Placement → Type 0
 placedAs (given c) t = t ≡ c .placement
 placedAs (refused n) t = Unit {0}
-
--- for proofs alone: `unfolding probe-defs` opens the definitions of this file
-unfoldable pub probe-defs : ℕ
-unfolding bucketProbe noSlot positionProbe slotProbe metaWritten recordNumber stepProbe probedRecordWritten keyWritten totalsOf sizeProbe lengthProbe constructNumber seedWritten placedAs
-probe-defs = 0

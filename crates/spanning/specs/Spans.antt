@@ -125,8 +125,3 @@ unfoldable pub SpanIsLookups : Type 0
 SpanIsLookups =
     (t : LinkerStore) → Store t → Bytes (t .bytes) → Scans t → (first count limit places : ℕ) → first + count ≤ length (storeKeys t)
     → 2 * count ≤ places → span t first count limit places ≡ given (lookupPairs t limit (keysSpanned t first count))
-
--- for proofs alone: `unfolding spans-defs` opens the definitions of this file
-unfoldable pub spans-defs : ℕ
-unfolding keysBehind keysListed storeKeys keysSpanned span pairOf locatedPairs lookupPairs
-spans-defs = 0

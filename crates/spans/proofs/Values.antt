@@ -10,11 +10,11 @@ use native.Mathlib.Omega.{arith}
 use lib.Dec.{leb, ltb}
 use lib.ListN.{length, set}
 use lib.Seq.{sets}
-use borrow.Author.Tests.{le-leb, lt-leb, lt-ltb, le-ltb, leb-true, ltb-true}
+use borrow.Author.Tests.{le-leb, lt-leb, lt-ltb, le-ltb}
 use Rattle.num.specs.Answer.{Answer, given, refused}
 use Rattle.num.specs.Choice.{if_then_else_, both}
 use Rattle.num.specs.Number.{leAt}
-use Rattle.num.proofs.Choice.{false-true, both-true, true-both, both-no, if-true, if-false}
+use Rattle.num.proofs.Choice.{true-both, both-no, if-true, if-false}
 use Rattle.sstable.specs.declared.Kind.{Kind}
 use Rattle.encoding.specs.Encoding.{versionLenOf, tombstoneOf}
 use Rattle.header.specs.declared.Opened.{Opened}
@@ -23,7 +23,7 @@ use Rattle.locator.specs.Locator.{readable}
 use Rattle.spans.specs.Span.{Pair, valueEnd, unlessTombstone, valueAt, valueFrom, pairNumbers}
 use Rattle.spans.specs.declared.VersionRead.{VersionRead}
 use Rattle.spans.specs.declared.VersionRead.the-variants.{At, Absent, Failed}
-use Rattle.spans.specs.Internal.{valueRead, isFailed, isGiven, pairsOf}
+use Rattle.spans.specs.Internal.{valueRead, isFailed, isGiven}
 
 module _ (s : List ℕ) (o : Opened) (pos limit : ℕ) where
   -- is its sequence read inside the section, and its sum below 2^64?

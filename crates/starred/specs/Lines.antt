@@ -12,7 +12,6 @@ use Rattle.sstable.specs.declared.Kind.{Kind}
 use Rattle.sstable.specs.declared.Kind.the-variants.{Put, Tombstone}
 use Rattle.block.specs.Walk.{Entry}
 use Rattle.encoding.specs.Encoding.{widthOf, valueWidthOf}
-use Rattle.header.specs.declared.Opened.{Opened}
 use Rattle.header.specs.declared.HeaderRead.{HeaderRead}
 use Rattle.header.specs.declared.HeaderRead.the-variants as header-read
 use Rattle.validate.specs.Walk.{valueOf}

@@ -2,7 +2,7 @@
 -- is the walk of the block with the questions asked of its records.
 -- Assumes nothing.
 use mathlib.Core.Path.{_≡_, refl, sym, ap, _∙_, subst}
-use mathlib.Core.List.{List, [], _∷_, map}
+use mathlib.Core.List.{List, [], map}
 use mathlib.Core.Bool.{Bool, true, false}
 use Prim.Native.Nat.{ℕ, zero, suc, _+_, _-_, _<_, _≤_}
 use native.Mathlib.Omega.{arith}
@@ -10,8 +10,6 @@ use lib.Dec.{leb}
 use lib.ListN.{length}
 use borrow.Author.Tests.{le-leb, lt-leb}
 use Rattle.num.specs.Answer.{Answer, given, refused}
-use Rattle.block.specs.declared.Stepped.the-variants.{Stopped}
-use Rattle.block.specs.Record.{steppedNumber}
 use Rattle.block.specs.Walk.{Entry, Step, met, stop, stepOf, Walk, atEnd, stopped, noEntries, entryThen, walkAt}
 use Rattle.block.proofs.Step.{step-moved}
 use Rattle.block.proofs.Walk.{walk-ind}

@@ -25,7 +25,7 @@ use Rattle.arena.specs.declared.Visited.{Visited}
 use Rattle.arena.specs.declared.Visited.the-variants as visited
 use Rattle.versions.specs.Version.{visitOf}
 use Rattle.validate.specs.declared.Carried.{Carried}
-use Rattle.validate.specs.declared.RecordOpened.the-variants.{More, Refused}
+use Rattle.validate.specs.declared.RecordOpened.the-variants.{More}
 use Rattle.validate.specs.Walk.{Inputs, placed, valueOf, progressFor, entryAsked}
 use Rattle.validate.specs.Internal.{State, Asked, more, noMore, progressOf, askedFrom, recordAsked, stepAsked, askedAt, inputsWith, stateIn, Held, Lies, entryIn, askedFor}
 

@@ -116,8 +116,3 @@ blockHeld half (block.Refused n) = Unit {0}
 unfoldable pub answerFor : ℕ → List ℕ → BlockOpened → Answer Progress
 answerFor half scratch (block.Passed w) = given (progressIn half scratch w)
 answerFor half scratch (block.Refused n) = refused n
-
--- for proofs alone: `unfolding internal-defs` opens the definitions of this file
-unfoldable pub internal-defs : ℕ
-unfolding progressOf askedFrom recordAsked stepAsked askedAt stateIn progressIn askedFor entryIn answerFor
-internal-defs = 0

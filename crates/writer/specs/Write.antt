@@ -8,7 +8,6 @@ use lib.Seq.{sets}
 use Rattle.num.specs.Choice.{if_then_else_, ask_otherwise_then_, both}
 use Rattle.num.specs.Number.{leAt}
 use Rattle.num.specs.Answer.{Answer, given, refused}
-use Rattle.sstable.specs.declared.Kind.{Kind}
 use Rattle.sstable.specs.declared.Kind.the-variants.{Put, Tombstone}
 use Rattle.encoding.specs.Encoding.{maxScanPrefix, encodingOf, sectionLenOf}
 use Rattle.area.specs.Area.{areaVersionLen, areaVersions, areaKey, firstVersionAt, nextHead, areaKind, areaSize, areaOffset, areaChecksum, keysIn}

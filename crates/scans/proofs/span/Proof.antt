@@ -1,5 +1,4 @@
-use mathlib.Core.Path.{sym, ap, _∙_, subst⁻¹}
-use mathlib.Core.Bool.{true}
+use mathlib.Core.Path.{sym, ap, _∙_}
 use mathlib.Core.List.{List}
 use lib.ListN.{length}
 use Rattle.num.specs.Answer.{Answer}

@@ -1,4 +1,4 @@
-use mathlib.Core.Path.{_≡_, sym, ap}
+use mathlib.Core.Path.{sym, ap}
 use Rattle.spans.specs.Internal.{isFailed}
 use borrow.Author.Needs.{needs}
 use Rattle.spans.proofs.is_failed.Statement.{statement}

@@ -1,9 +1,7 @@
-use mathlib.Core.Path.{_≡_, refl, sym, ap, _∙_}
-use Prim.Native.Nat.{_+_, _≤_}
+use mathlib.Core.Path.{refl, sym, _∙_}
 use native.Mathlib.Omega.{arith}
 use Rattle.encoding.specs.Encoding.{keyHeaderLenOf}
 use Rattle.encoding.proofs.Widths.{widths-le}
-use Rattle.arena.proofs.Reading.{key-header-narrow}
 use Rattle.spans.specs.Internal.{valueRead, Inside}
 use Rattle.spans.proofs.Keys.{key-outside, key-versions, record-bounds}
 use borrow.Author.Needs.{needs}
