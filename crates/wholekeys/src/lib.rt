@@ -1,5 +1,4 @@
-// Judges whether the key records of a span are whole, as in an accepted section: then nothing of them is refused, and each key stands at its scan
-// address.
+// Judges whether the key records of a span are whole: then nothing of them is refused, and each key stands at its scan address.
 ghost use mathlib.Core.Path.{_≡_};
 ghost use mathlib.Core.Bool.{true};
 ghost use Prim.Native.Nat.{_+_, _*_, _^_, _<_, _≤_};
