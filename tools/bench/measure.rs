@@ -67,7 +67,9 @@ const BATCH_NS: f64 = 300_000.0;
 /// What takes longer is measured in fewer rounds.
 const LONG_NS: f64 = 50_000_000.0;
 
+/// Once untimed first: a row then finds its own data in the caches, whatever other rows the run has.
 fn time(work: &mut Work, times: usize) -> f64 {
+    work(1);
     work(times).1.as_nanos() as f64 / times as f64
 }
 

@@ -70,6 +70,7 @@ pub fn fills(rng: &mut Rng) -> List {
     for blocks in lists_near(blocks, data.len() as u64).iter().step_by(3) {
         fill(&mut list, data, blocks, rng.between(2, 5));
     }
+    // The one of them whose third block alone is not sound.
     let (data, blocks) = &three[16];
     assert_eq!(filled(data, blocks, 0), Err(12), "the third block's 12 comes before 41");
     while list.rows() < ROWS {
