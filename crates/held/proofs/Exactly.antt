@@ -3,27 +3,27 @@
 use mathlib.Core.Path.{_≡_, refl, sym, ap, _∙_, subst, subst⁻¹}
 use mathlib.Core.Logic.{_↔_}
 use mathlib.Core.Bool.{Bool, true, false}
-use mathlib.Core.List.{List}
+use mathlib.Core.List.{List, [], _∷_}
 use Prim.Native.Nat.{ℕ, _+_, _*_, _-_, _/_, _%_, _^_, _<_, _≤_}
 use native.Mathlib.Omega.{arith}
-use lib.Dec.{eqb, leb}
+use lib.Dec.{eqb, leb, ltb}
 use lib.ListN.{length, getD}
 use borrow.Author.Tests.{leb-true, leb-false, ltb-true, lt-ltb, eqb-true, eqb-false, eq-eqb, ne-eqb}
-use Rattle.num.specs.Choice.{if_then_else_, both, either}
+use Rattle.num.specs.Choice.{if_then_else_, both, either, oneOf}
 use Rattle.num.specs.Number.{leAt}
 use Rattle.num.proofs.Choice.{both-true, true-both, false-true, oneOf-case, if-true, if-false, same-truth, second-either}
-use Rattle.encoding.specs.Encoding.{trailerLen}
+use Rattle.encoding.specs.Encoding.{Widths, trailerLen}
 use Rattle.header.specs.declared.Opened.{Opened}
 use Rattle.header.specs.declared.HeaderRead.{HeaderRead}
 use Rattle.header.specs.declared.HeaderRead.the-variants.{Accepted, Refused}
-use Rattle.header.specs.Header.{begins, scanPlaceOf, scanPart, scanSettings, withScan, scannedOf}
+use Rattle.header.specs.Header.{begins, allowedWidths, scanPlaceOf, scanPart, scanSettings, withScan, scannedOf}
 use Rattle.header.specs.Facts.{Numbers, Dimensions, Scan, Header, PackedHeader, IsRecord, fromPlain, fromPacked}
 use Rattle.header.proofs.Questions.{begins-yes, yes-begins, widths-yes, yes-widths, scan-yes, yes-scan, scan-place}
 use Rattle.header.proofs.Bounds.{product-le, buckets-range, addresses-lt}
 use Rattle.opened.specs.Opened.{isRecord}
 use Rattle.opened.proofs.Records.{record-facts, facts-record}
 use Rattle.numbers.specs.Numbers.{openedOf, isRecordNumbers}
-use Rattle.held.specs.Held.{says, widthsSay, headerSays, countsFit, numbersFit, plainArena, packedArena, startsAt, scanHolds, plainHolds, packedHolds, holdsOf, HeldExactly}
+use Rattle.held.specs.Held.{says, widthsSay, widthsHold, headerSays, countsFit, plainArena, packedArena, startsAt, scanHolds, plainHolds, packedHolds, holdsOf, HeldExactly}
 
 -- ---- the numbers alone
 
@@ -31,24 +31,43 @@ pub flags-are : (r : List ℕ) → isRecordNumbers r ≡ true → (getD r 10 0 �
 unfolding isRecordNumbers
 flags-are r t = let c = both-true _ _ t in (leb-true (getD r 10 0) 1 (c .0), leb-true (getD r 12 0) 1 (both-true _ _ (c .1) .0))
 
-pub fit-record : (r : List ℕ) → numbersFit r ≡ true → isRecordNumbers r ≡ true
-unfolding numbersFit
-fit-record r t = both-true _ _ (both-true _ _ t .0) .0
+pub few-keys : (n : ℕ) → both (ltb 0 n) (ltb n (2 ^ 31)) ≡ true → (1 ≤ n) × (n < 2 ^ 31)
+few-keys n t = let d = both-true _ _ t in (ltb-true 0 n (d .0), ltb-true n (2 ^ 31) (d .1))
 
-pub fit-dimensions : (r : List ℕ) → numbersFit r ≡ true → Dimensions (openedOf r)
-unfolding numbersFit countsFit openedOf
-fit-dimensions r t =
-    let a = both-true _ _ t in
-    let c = both-true _ _ (both-true _ _ (a .0) .1) in
-    let d = both-true _ _ (c .1) in
-    let n = ltb-true 0 (getD r 2 0) (c .0) in
-    let b = eqb-true (getD r 3 0) (getD r 2 0 - getD r 2 0 / 2) (d .1) in
-    record {
-      some = n;
-      few = ltb-true (getD r 2 0) (2 ^ 31) (d .0);
-      halved = omega (arith, b);
-      widths = widths-yes (openedOf r .encoding) (a .1);
-    }
+counts-are : (r : List ℕ) → countsFit r ≡ true → (1 ≤ getD r 2 0) × (getD r 2 0 < 2 ^ 31) × (getD r 3 0 ≡ (getD r 2 0 + 1) / 2)
+unfolding countsFit
+counts-are r t =
+    let c = both-true _ _ t in
+    let d = few-keys (getD r 2 0) (c .0) in
+    (d .0, d .1, eqb-true (getD r 3 0) ((getD r 2 0 + 1) / 2) (c .1))
+
+pub hold-widths : (s r : List ℕ) → widthsHold s r ≡ true → Widths (openedOf r .encoding)
+unfolding widthsHold
+hold-widths s r t = widths-yes (openedOf r .encoding) (both-true _ _ t .0)
+
+pub fit-dimensions : (r : List ℕ) → countsFit r ≡ true → Widths (openedOf r .encoding) → Dimensions (openedOf r)
+unfolding openedOf
+fit-dimensions r t w =
+    let c = counts-are r t in
+    record { some = c .0; few = c .1; halved = c .2; widths = w }
+
+-- what keeps the compared numbers of the header in four bytes
+pub counts-short : (r : List ℕ) → countsFit r ≡ true → (getD r 2 0 < 2 ^ 32) × (getD r 3 0 < 2 ^ 32)
+counts-short r t = let c = counts-are r t in (omega arith, omega arith)
+
+pub widths-short : (r : List ℕ) → allowedWidths (openedOf r .encoding) ≡ true
+    → (getD r 5 0 < 2 ^ 32) × (getD r 6 0 < 2 ^ 32) × (getD r 7 0 < 2 ^ 32) × (getD r 8 0 < 2 ^ 32) × (getD r 9 0 < 2 ^ 32)
+unfolding openedOf
+widths-short r t =
+    let w = widths-yes (openedOf r .encoding) t in
+    let three : (n : ℕ) → oneOf (1 ∷ 2 ∷ 4 ∷ []) n ≡ true → n < 2 ^ 32 =
+    λ n e. oneOf-case (λ k. k < 2 ^ 32) _ n e (omega arith, (omega arith, (omega arith, tt))) in (
+      oneOf-case (λ k. k < 2 ^ 32) _ _ (w .address) (omega arith, (omega arith, tt)),
+      three (getD r 6 0) (w .key),
+      three (getD r 7 0) (w .count),
+      oneOf-case (λ k. k < 2 ^ 32) _ _ (w .seq) (omega arith, (omega arith, (omega arith, (omega arith, tt)))),
+      oneOf-case (λ k. k < 2 ^ 32) _ _ (w .value) (omega arith, (omega arith, tt)),
+    )
 
 -- what keeps the arena starts below 2^64
 pub arena-bounds : (r : List ℕ) → Dimensions (openedOf r)
@@ -58,14 +77,11 @@ arena-bounds r d =
     let a : getD r 5 0 ≤ 8 = oneOf-case (λ n. n ≤ 8) _ _ (d .widths .address) (omega arith, (omega arith, tt)) in
     (buckets-range (openedOf r) d .1, a, addresses-lt (openedOf r) d, product-le (getD r 2 0) (getD r 5 0 + 2) 10 (d .few) (omega arith))
 
-dimensions-fit : (r : List ℕ) → isRecordNumbers r ≡ true → Dimensions (openedOf r) → numbersFit r ≡ true
-unfolding numbersFit countsFit openedOf
-dimensions-fit r t d =
-    true-both _ _
-    (true-both _ _ t
-    (true-both _ _ (lt-ltb 0 (getD r 2 0) (d .some))
-    (true-both _ _ (lt-ltb (getD r 2 0) (2 ^ 31) (d .few)) (eq-eqb (getD r 3 0) (getD r 2 0 - getD r 2 0 / 2) (let h = d .halved in omega arith)))))
-    (yes-widths (openedOf r .encoding) (d .widths))
+dimensions-fit : (r : List ℕ) → Dimensions (openedOf r) → countsFit r ≡ true
+unfolding countsFit openedOf
+dimensions-fit r d =
+    true-both _ _ (true-both _ _ (lt-ltb 0 (getD r 2 0) (d .some)) (lt-ltb (getD r 2 0) (2 ^ 31) (d .few)))
+    (eq-eqb (getD r 3 0) ((getD r 2 0 + 1) / 2) (d .halved))
 
 unpacked-is : (r : List ℕ) → isRecordNumbers r ≡ true → openedOf r .packed ≡ false → getD r 12 0 ≡ 0
 unfolding openedOf
@@ -78,21 +94,20 @@ packed-is r e z = let o = eqb-true (getD r 12 0) 1 e in omega arith
 -- ---- the header's numbers
 
 module _ (s r : List ℕ) where
-  says-numbers : headerSays s r ≡ true → (eqb (getD r 10 0) 1 ≡ true) ↔ (leAt s 52 4 % 2 ≡ 1) → Numbers s (openedOf r)
-  unfolding headerSays widthsSay says openedOf
-  says-numbers t f =
+  says-numbers : widthsHold s r ≡ true → headerSays s r ≡ true → (eqb (getD r 10 0) 1 ≡ true) ↔ (leAt s 52 4 % 2 ≡ 1) → Numbers s (openedOf r)
+  unfolding widthsHold headerSays widthsSay says openedOf
+  says-numbers w t f =
       let a = both-true _ _ t in
       let b = both-true _ _ (a .1) in
       let c = both-true _ _ (b .1) in
-      let d = both-true _ _ (c .1) in
-      let e = both-true _ _ (d .1) in
+      let e = both-true _ _ (both-true _ _ w .1) in
       let g = both-true _ _ (e .1) in
       let h = both-true _ _ (g .1) in
       let k = both-true _ _ (h .1) in
       record {
         seed = sym (eqb-true _ _ (a .0));
         count = sym (eqb-true _ _ (c .0));
-        buckets = sym (eqb-true _ _ (d .0));
+        buckets = sym (eqb-true _ _ (c .1));
         address = sym (eqb-true _ _ (e .0));
         key = sym (eqb-true _ _ (g .0));
         versions = sym (eqb-true _ _ (h .0));
@@ -103,16 +118,20 @@ module _ (s r : List ℕ) where
       }
 
   numbers-say : Numbers s (openedOf r) → headerSays s r ≡ true
-  unfolding headerSays widthsSay says openedOf
+  unfolding headerSays says openedOf
   numbers-say n =
       true-both _ _ (eq-eqb _ _ (sym (n .seed)))
       (true-both _ _ (eq-eqb _ _ (sym (n .least)))
-      (true-both _ _ (eq-eqb _ _ (sym (n .count)))
-      (true-both _ _ (eq-eqb _ _ (sym (n .buckets)))
+      (true-both _ _ (eq-eqb _ _ (sym (n .count))) (eq-eqb _ _ (sym (n .buckets)))))
+
+  widths-held : Numbers s (openedOf r) → Widths (openedOf r .encoding) → widthsHold s r ≡ true
+  unfolding widthsHold widthsSay says openedOf
+  widths-held n w =
+      true-both _ _ (yes-widths (openedOf r .encoding) w)
       (true-both _ _ (eq-eqb _ _ (sym (n .address)))
       (true-both _ _ (eq-eqb _ _ (sym (n .key)))
       (true-both _ _ (eq-eqb _ _ (sym (n .versions)))
-      (true-both _ _ (eq-eqb _ _ (sym (n .seq))) (eq-eqb _ _ (sym (n .value))))))))))
+      (true-both _ _ (eq-eqb _ _ (sym (n .seq))) (eq-eqb _ _ (sym (n .value)))))))
 
 -- ---- the scan part
 
@@ -217,10 +236,10 @@ odd-flags n o l = second-either _ _ (λ e. let m = eqb-false n 1 e in eq-eqb n 3
 -- ---- question 24 of a record that is not packed
 
 module _ (s r : List ℕ) where
-  plain-header : begins s ≡ true → headerSays s r ≡ true → isRecordNumbers r ≡ true → numbersFit r ≡ true → getD r 12 0 ≡ 0 → plainHolds s r ≡ true
-      → Header s (openedOf r)
+  plain-header : begins s ≡ true → widthsHold s r ≡ true → countsFit r ≡ true → headerSays s r ≡ true → isRecordNumbers r ≡ true
+      → getD r 12 0 ≡ 0 → plainHolds s r ≡ true → Header s (openedOf r)
   unfolding plainHolds startsAt plainArena Flags openedOf
-  plain-header b n i f p t =
+  plain-header b w f n i p t =
       let a = both-true _ _ t in
       let g = both-true _ _ (a .0) in
       let k = both-true _ _ (g .1) in
@@ -229,8 +248,8 @@ module _ (s r : List ℕ) where
       record {
         plain = ne-eqb (getD r 12 0) 1 (λ e. omega arith);
         begins = begins-yes s b;
-        numbers = says-numbers s r n (said .1);
-        dimensions = fit-dimensions r f;
+        numbers = says-numbers s r w n (said .1);
+        dimensions = fit-dimensions r f (hold-widths s r w);
         flags = said .0;
         stored = own ∙ sym (eqb-true (leAt s 24 8) (plainArena r) (k .0));
         start = own;
@@ -251,10 +270,10 @@ module _ (s r : List ℕ) where
 
   -- ---- of a packed one
 
-  packed-header : begins s ≡ true → headerSays s r ≡ true → numbersFit r ≡ true → getD r 12 0 ≡ 1 → packedHolds s r ≡ true
+  packed-header : begins s ≡ true → widthsHold s r ≡ true → countsFit r ≡ true → headerSays s r ≡ true → getD r 12 0 ≡ 1 → packedHolds s r ≡ true
       → PackedHeader s (openedOf r)
   unfolding packedHolds startsAt plainArena packedArena says openedOf
-  packed-header b n f p t =
+  packed-header b w f n p t =
       let a = both-true _ _ t in
       let g = both-true _ _ (a .0) in
       let k = both-true _ _ (g .1) in
@@ -266,8 +285,8 @@ module _ (s r : List ℕ) where
       record {
         packed = eq-eqb (getD r 12 0) 1 p;
         begins = begins-yes s b;
-        numbers = says-numbers s r n ((λ _. odd .0), λ _. v .0);
-        dimensions = fit-dimensions r f;
+        numbers = says-numbers s r w n ((λ _. odd .0), λ _. v .0);
+        dimensions = fit-dimensions r f (hold-widths s r w);
         flags = odd .1;
         stored = eqb-true (leAt s 24 8) (plainArena r) (k .0);
         start = own;
@@ -294,18 +313,19 @@ module _ (s r : List ℕ) where
   unfolding holdsOf if_then_else_
   held-yes t =
       let b = both-true _ _ t in
-      let n = both-true _ _ (b .1) in
-      let f = both-true _ _ (n .1) in
-      let i = fit-record r (f .0) in
-      true-both _ _ i (facts-record s (openedOf r) (go (eqb (getD r 12 0) 0) refl (b .0) (n .0) i (f .0) (f .1)))
+      let w = both-true _ _ (b .1) in
+      let f = both-true _ _ (w .1) in
+      let n = both-true _ _ (f .1) in
+      let i = both-true _ _ (n .1) in
+      true-both _ _ (i .0) (facts-record s (openedOf r) (go (eqb (getD r 12 0) 0) refl (b .0) (w .0) (f .0) (n .0) (i .0) (i .1)))
     where
-      go : (p : Bool) → eqb (getD r 12 0) 0 ≡ p → begins s ≡ true → headerSays s r ≡ true → isRecordNumbers r ≡ true → numbersFit r ≡ true
+      go : (p : Bool) → eqb (getD r 12 0) 0 ≡ p → begins s ≡ true → widthsHold s r ≡ true → countsFit r ≡ true → headerSays s r ≡ true → isRecordNumbers r ≡ true
           → if_then_else_ p (plainHolds s r) (packedHolds s r) ≡ true → IsRecord s (openedOf r)
-      go true e b n i f t = fromPlain (plain-header b n i f (eqb-true (getD r 12 0) 0 e) t)
-      go false e b n i f t =
+      go true e b w f n i t = fromPlain (plain-header b w f n i (eqb-true (getD r 12 0) 0 e) t)
+      go false e b w f n i t =
           let z = eqb-false (getD r 12 0) 0 e in
           let l = flags-are r i .1 in
-          fromPacked (packed-header b n f (omega arith) t)
+          fromPacked (packed-header b w f n (omega arith) t)
 
   yes-held : both (isRecordNumbers r) (isRecord s (openedOf r)) ≡ true → holdsOf s r ≡ true
   unfolding holdsOf
@@ -313,7 +333,10 @@ module _ (s r : List ℕ) where
     where
       all : begins s ≡ true → isRecordNumbers r ≡ true → Numbers s (openedOf r) → Dimensions (openedOf r)
           → (if eqb (getD r 12 0) 0 then plainHolds s r else packedHolds s r) ≡ true → holdsOf s r ≡ true
-      all b i n d t = true-both _ _ b (true-both _ _ (numbers-say s r n) (true-both _ _ (dimensions-fit r i d) t))
+      all b i n d t =
+          true-both _ _ b
+          (true-both _ _ (widths-held s r n (d .widths))
+          (true-both _ _ (dimensions-fit r d) (true-both _ _ (numbers-say s r n) (true-both _ _ i t))))
 
       go : isRecordNumbers r ≡ true → IsRecord s (openedOf r) → holdsOf s r ≡ true
       go i (fromPlain h) =

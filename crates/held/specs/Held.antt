@@ -27,22 +27,21 @@ widthsSay s r =
     (both (says s 44 (getD r 8 0))
     (says s 48 (getD r 9 0)))))
 
--- seed, least sequence, counts and widths
+-- are the widths allowed, and the header's?
+unfoldable pub widthsHold : List ℕ → List ℕ → Bool
+widthsHold s r = both (allowedWidths (openedOf r .encoding)) (widthsSay s r)
+
+-- seed, least sequence and counts
 unfoldable pub headerSays : List ℕ → List ℕ → Bool
 headerSays s r =
     both (eqb (leAt s 8 8) (getD r 0 0))
     (both (eqb (leAt s 56 8) (getD r 1 0))
     (both (says s 16 (getD r 2 0))
-    (both (says s 20 (getD r 3 0))
-    (widthsSay s r))))
+    (says s 20 (getD r 3 0))))
 
 -- question 4 of the counts
 unfoldable pub countsFit : List ℕ → Bool
-countsFit r = both (ltb 0 (getD r 2 0)) (both (ltb (getD r 2 0) (2 ^ 31)) (eqb (getD r 3 0) (getD r 2 0 - getD r 2 0 / 2)))
-
--- what 24 asks of the numbers alone
-unfoldable pub numbersFit : List ℕ → Bool
-numbersFit r = both (both (isRecordNumbers r) (countsFit r)) (allowedWidths (openedOf r .encoding))
+countsFit r = both (both (ltb 0 (getD r 2 0)) (ltb (getD r 2 0) (2 ^ 31))) (eqb (getD r 3 0) ((getD r 2 0 + 1) / 2))
 
 -- the arena start that question 4 asks for
 unfoldable pub plainArena : List ℕ → ℕ
@@ -79,9 +78,11 @@ packedHolds s r =
 unfoldable pub holdsOf : List ℕ → List ℕ → Bool
 holdsOf s r =
     both (begins s)
+    (both (widthsHold s r)
+    (both (countsFit r)
     (both (headerSays s r)
-    (both (numbersFit r)
-    (if eqb (getD r 12 0) 0 then plainHolds s r else packedHolds s r)))
+    (both (isRecordNumbers r)
+    (if eqb (getD r 12 0) 0 then plainHolds s r else packedHolds s r)))))
 
 -- it is what the definitions ask of the record that the numbers are
 unfoldable pub HeldExactly : Type 0

@@ -1,27 +1,30 @@
 // Question 24 of sixteen numbers, before a record is made of them: every lookup and every span asks it. Tests that need no other are joined
 // by `&`, which leaves few branches.
 ghost use mathlib.Core.Path.{_≡_};
-ghost use Prim.Native.Nat.{_+_, _≤_};
+ghost use mathlib.Core.Bool.{true};
+ghost use Prim.Native.Nat.{_+_, _^_, _≤_, _<_};
 ghost use lib.ListN.{length, getD};
 ghost use Rattle.num.specs.Choice.{both};
-ghost use Rattle.header.specs.Header.{scannedOf};
+ghost use Rattle.header.specs.Header.{allowedWidths, scannedOf};
 ghost use Rattle.header.specs.Facts.{Dimensions};
 ghost use Rattle.opened.specs.Opened.{isRecord};
 ghost use Rattle.numbers.specs.Numbers.{openedOf, isRecordNumbers};
-ghost use Rattle.held.specs.Held.{says, widthsSay, headerSays, countsFit, numbersFit, plainArena, packedArena, startsAt, scanHolds, plainHolds, packedHolds};
+ghost use Rattle.held.specs.Held.{says, widthsSay, widthsHold, headerSays, countsFit, plainArena, packedArena, startsAt, scanHolds, plainHolds, packedHolds};
 use encoding::Encoding;
 use header::HeaderRead;
 
-// Has the header this number in the four bytes at a place?
+// Has the header this number in the four bytes at a place? The number is known to be so short: it is compared without widening the bytes.
 fn says(section: &[u8], place: usize, number: u64) -> bool
     requires { ⌜ place + 4 ≤ length (now section) ⌝ }
+    requires { ⌜ number < 2 ^ 32 ⌝ }
     ensures { λ r. ⌜ r ≡ says (now (section .entry)) place number ⌝ }
 {
-    num::u32_at(section, place) as u64 == number
+    num::u32_at(section, place) == number as u32
 }
 
 fn widths_say(section: &[u8], numbers: &[u64; 16]) -> bool
     requires { ⌜ 64 ≤ length (now section) ⌝ }
+    requires { ⌜ allowedWidths (openedOf (now numbers) .encoding) ≡ true ⌝ }
     ensures { λ r. ⌜ r ≡ widthsSay (now (section .entry)) (now (numbers .entry)) ⌝ }
 {
     says(section, 32, numbers[5])
@@ -30,34 +33,38 @@ fn widths_say(section: &[u8], numbers: &[u64; 16]) -> bool
                 & (says(section, 44, numbers[8]) & says(section, 48, numbers[9]))))
 }
 
-// The header's seed, least sequence, counts and widths.
+// Are the widths allowed, and the header's?
+fn widths_hold(section: &[u8], numbers: &[u64; 16]) -> bool
+    requires { ⌜ 64 ≤ length (now section) ⌝ }
+    ensures { λ r. ⌜ r ≡ widthsHold (now (section .entry)) (now (numbers .entry)) ⌝ }
+{
+    let o = numbers::read_record(numbers);
+    let e = o.encoding;
+    if !header::allowed_widths(e) {
+        return false;
+    }
+    widths_say(section, numbers)
+}
+
+// The header's seed, least sequence and counts.
 fn header_says(section: &[u8], numbers: &[u64; 16]) -> bool
     requires { ⌜ 64 ≤ length (now section) ⌝ }
+    requires { ⌜ countsFit (now numbers) ≡ true ⌝ }
     ensures { λ r. ⌜ r ≡ headerSays (now (section .entry)) (now (numbers .entry)) ⌝ }
 {
     (num::u64_at(section, 8) == numbers[0])
         & ((num::u64_at(section, 56) == numbers[1])
-            & (says(section, 16, numbers[2])
-                & (says(section, 20, numbers[3]) & widths_say(section, numbers))))
+            & (says(section, 16, numbers[2]) & says(section, 20, numbers[3])))
 }
 
 fn counts_fit(numbers: &[u64; 16]) -> bool
     ensures { λ r. ⌜ r ≡ countsFit (now (numbers .entry)) ⌝ }
 {
     let n = numbers[2];
-    (0 < n) & ((n < 0x8000_0000) & (numbers[3] == n - n / 2))
-}
-
-// What 24 asks of the numbers alone.
-fn numbers_fit(numbers: &[u64; 16]) -> bool
-    ensures { λ r. ⌜ r ≡ numbersFit (now (numbers .entry)) ⌝ }
-{
-    let o = numbers::read_record(numbers);
-    let e = o.encoding;
-    if !(numbers::is_record(numbers) & counts_fit(numbers)) {
+    if !((0 < n) & (n < 0x8000_0000)) {
         return false;
     }
-    header::allowed_widths(e)
+    numbers[3] == (n + 1) / 2
 }
 
 // The arena start that question 4 asks for.
@@ -100,13 +107,15 @@ fn scan_holds(section: &[u8], numbers: &[u64; 16]) -> bool
     }
 }
 
-// 24 of a record that is not packed, behind the tests above.
+// 24 of a record that is not packed, behind the tests above. Here its number 12 is known, so the test for a record is short.
 fn plain_holds(section: &[u8], numbers: &[u64; 16]) -> bool
     requires { ⌜ Dimensions (openedOf (now numbers)) ⌝ }
     requires { ⌜ 69 ≤ length (now section) ⌝ }
-    requires { ⌜ getD (now numbers) 10 0 ≤ 1 ⌝ }
-    ensures { λ r. ⌜ r ≡ plainHolds (now (section .entry)) (now (numbers .entry)) ⌝ }
+    ensures { λ r. ⌜ r ≡ both (isRecordNumbers (now (numbers .entry))) (plainHolds (now (section .entry)) (now (numbers .entry))) ⌝ }
 {
+    if !numbers::is_record_numbers(numbers) {
+        return false;
+    }
     let arena = plain_arena(numbers);
     if !starts_at(section, numbers, arena, arena) {
         return false;
@@ -124,16 +133,17 @@ fn plain_holds(section: &[u8], numbers: &[u64; 16]) -> bool
 fn packed_holds(section: &[u8], numbers: &[u64; 16]) -> bool
     requires { ⌜ Dimensions (openedOf (now numbers)) ⌝ }
     requires { ⌜ 69 ≤ length (now section) ⌝ }
-    ensures { λ r. ⌜ r ≡ packedHolds (now (section .entry)) (now (numbers .entry)) ⌝ }
+    ensures { λ r. ⌜ r ≡ both (isRecordNumbers (now (numbers .entry))) (packedHolds (now (section .entry)) (now (numbers .entry))) ⌝ }
 {
-    starts_at(
-        section,
-        numbers,
-        packed_arena(numbers),
-        plain_arena(numbers),
-    )
-        & (((numbers[2] < 0x80_0000) & ((numbers[10] == 1) & (numbers[11] == 0)))
-            & (says(section, 52, 1) | says(section, 52, 3)))
+    numbers::is_record_numbers(numbers)
+        & (starts_at(
+            section,
+            numbers,
+            packed_arena(numbers),
+            plain_arena(numbers),
+        )
+            & (((numbers[2] < 0x80_0000) & ((numbers[10] == 1) & (numbers[11] == 0)))
+                & (says(section, 52, 1) | says(section, 52, 3))))
 }
 
 // Question 24: are these numbers a record, and one that the section gives?
@@ -143,10 +153,13 @@ pub fn holds(section: &[u8], numbers: &[u64; 16]) -> bool
     if !header::begins(section) {
         return false;
     }
-    if !header_says(section, numbers) {
+    if !widths_hold(section, numbers) {
         return false;
     }
-    if !numbers_fit(numbers) {
+    if !counts_fit(numbers) {
+        return false;
+    }
+    if !header_says(section, numbers) {
         return false;
     }
     if numbers[12] == 0 {

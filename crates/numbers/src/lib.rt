@@ -40,7 +40,7 @@ pub fn write_record(o: Opened, out: &mut [u64; 16])
 }
 
 // Could these sixteen numbers be a record that an opening wrote?
-pub fn is_record(numbers: &[u64; 16]) -> bool
+pub fn is_record_numbers(numbers: &[u64; 16]) -> bool
     ensures { λ r. ⌜ r ≡ isRecordNumbers (now (numbers .entry)) ⌝ }
 {
     (numbers[10] <= 1)

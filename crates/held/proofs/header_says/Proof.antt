@@ -1,9 +1,11 @@
 use mathlib.Core.Path.{ap, ap₂}
 use Prim.Native.Nat.{ℕ}
+use native.Mathlib.Omega.{arith}
 use lib.Dec.{eqb}
 use lib.ListN.{getD}
 use Rattle.num.specs.Choice.{both}
 use Rattle.held.specs.Held.{headerSays}
+use Rattle.held.proofs.Exactly.{counts-short}
 use borrow.Author.Needs.{needs}
 use Rattle.held.proofs.header_says.Statement.{statement}
 use Rattle.held.proofs.header_says.Tie as tie
@@ -24,24 +26,20 @@ element-copy-out-says : tie.Need-element-copy-out-says
 element-copy-out-says c = search needs
 
 says-requires : tie.Need-says-requires
-says-requires c κs = search needs
+says-requires c κs = let p = c .before .before .before .before .before .before .pre in (omega arith, counts-short _ (p .1) .0)
 
 element-copy-out-says-2 : tie.Need-element-copy-out-says-2
 element-copy-out-says-2 c = search needs
 
 says-requires-2 : tie.Need-says-requires-2
-says-requires-2 c κs = search needs
-
-widths-say-requires : tie.Need-widths-say-requires
-widths-say-requires c κs = search needs
+says-requires-2 c κs = let p = c .before .before .before .before .before .before .before .before .pre in (omega arith, counts-short _ (p .1) .1)
 
 returns : tie.Need-returns
 unfolding headerSays both
 returns c =
-    let r = c .before .before .before .before .before .before .before .before .before .before .args .numbers .now in
-    ap₂ both (ap (λ (n : ℕ). eqb n (getD r 0 0)) (c .before .before .before .before .before .before .before .before .u64-at .ensures))
-    (ap₂ both (ap (λ (n : ℕ). eqb n (getD r 1 0)) (c .before .before .before .before .before .before .u64-at2 .ensures))
-    (ap₂ both (c .before .before .before .says .ensures) (ap₂ both (c .before .says2 .ensures) (c .widths-say .ensures))))
+    let r = c .before .before .before .before .before .before .before .before .before .args .numbers .now in
+    ap₂ both (ap (λ (n : ℕ). eqb n (getD r 0 0)) (c .before .before .before .before .before .before .before .u64-at .ensures))
+    (ap₂ both (ap (λ (n : ℕ). eqb n (getD r 1 0)) (c .before .before .before .before .before .u64-at2 .ensures)) (ap₂ both (c .before .before .says .ensures) (c .says2 .ensures)))
 
 pub header-says-spec : {M : Type 1} → statement M
 header-says-spec =
@@ -55,5 +53,4 @@ header-says-spec =
     says-requires
     element-copy-out-says-2
     says-requires-2
-    widths-say-requires
     returns)

@@ -8,6 +8,9 @@ use borrow.Author.Needs.{needs}
 use Rattle.held.proofs.packed_holds.Statement.{statement}
 use Rattle.held.proofs.packed_holds.Tie as tie
 
+is-record-numbers-requires : tie.Need-is-record-numbers-requires
+is-record-numbers-requires c κs = search needs
+
 packed-arena-requires : tie.Need-packed-arena-requires
 packed-arena-requires c κs = search needs
 
@@ -35,17 +38,19 @@ says-requires-2 c κs = search needs
 returns : tie.Need-returns
 unfolding packedHolds both either
 returns c =
-    let a = c .before .before .before .before .before .before .before .before .before .args in
+    let a = c .before .before .before .before .before .before .before .before .before .before .args in
     let s = a .section .now in
     let r = a .numbers .now in
     let p = c .before .before .before .before .before in
-    ap₂ both (p .starts-at .ensures ∙ ap₂ (startsAt s r) (p .before .before .packed-arena .ensures) (p .before .plain-arena .ensures))
-    (ap (both (both (ltb (getD r 2 0) (2 ^ 23)) (both (eqb (getD r 10 0) 1) (eqb (getD r 11 0) 0)))) (ap₂ either (c .before .says .ensures) (c .says2 .ensures)))
+    ap₂ both (p .before .before .before .is-record-numbers .ensures)
+    (ap₂ both (p .starts-at .ensures ∙ ap₂ (startsAt s r) (p .before .before .packed-arena .ensures) (p .before .plain-arena .ensures))
+    (ap (both (both (ltb (getD r 2 0) (2 ^ 23)) (both (eqb (getD r 10 0) 1) (eqb (getD r 11 0) 0)))) (ap₂ either (c .before .says .ensures) (c .says2 .ensures))))
 
 pub packed-holds-spec : {M : Type 1} → statement M
 packed-holds-spec =
     tie.close
     (tie.spec
+    is-record-numbers-requires
     packed-arena-requires
     plain-arena-requires
     starts-at-requires

@@ -2,8 +2,8 @@ use mathlib.Core.Path.{refl}
 use Rattle.num.specs.Choice.{both}
 use Rattle.numbers.specs.Numbers.{isRecordNumbers}
 use borrow.Author.Needs.{needs}
-use Rattle.numbers.proofs.is_record.Statement.{statement}
-use Rattle.numbers.proofs.is_record.Tie as tie
+use Rattle.numbers.proofs.is_record_numbers.Statement.{statement}
+use Rattle.numbers.proofs.is_record_numbers.Tie as tie
 
 element-copy-out-result : tie.Need-element-copy-out-result
 element-copy-out-result c = search needs
@@ -24,8 +24,8 @@ returns : tie.Need-returns
 unfolding isRecordNumbers both
 returns c = refl
 
-pub is-record-spec : {M : Type 1} → statement M
-is-record-spec =
+pub is-record-numbers-spec : {M : Type 1} → statement M
+is-record-numbers-spec =
     tie.close
     (tie.spec
     element-copy-out-result
