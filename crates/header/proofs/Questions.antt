@@ -16,7 +16,7 @@ use Rattle.num.proofs.Order.{equalBytes-true, equalBytes-same}
 use Rattle.encoding.specs.declared.Encoding.{Encoding}
 use Rattle.encoding.specs.Encoding.{Widths, magic, scanMagic, trailerLen, stride, maxScanPrefix, bucketsOf, arenaStartOf}
 use Rattle.header.specs.declared.Opened.{Opened}
-use Rattle.header.specs.Header.{standsAt, between, begins, allowedWidths, dimensions, scanPartLen, scanPlaceOf, scanPart, scanSettings, withScan, fitsPacked}
+use Rattle.header.specs.Header.{standsAt, between, begins, allowedWidths, usualWidths, dimensions, scanPartLen, scanPlaceOf, scanPart, scanSettings, withScan, fitsPacked}
 use Rattle.header.specs.Facts.{Begins, Dimensions, Scan}
 
 -- eight bytes stand at a place if the numbers of both are the same
@@ -57,9 +57,8 @@ unfolding oneOf either
 first-of x xs w e = ap (λ (t : Bool). either t (oneOf xs w)) e
 
 -- where the other widths are the usual ones, that of sequences decides
-pub usual-allowed : (e : Encoding) → both (eqb (e .address) 4) (both (eqb (e .key) 1) (both (eqb (e .count) 1) (eqb (e .value) 2))) ≡ true
-    → oneOf (1 ∷ 2 ∷ 4 ∷ 8 ∷ []) (e .seq) ≡ allowedWidths e
-unfolding allowedWidths
+pub usual-allowed : (e : Encoding) → usualWidths e ≡ true → oneOf (1 ∷ 2 ∷ 4 ∷ 8 ∷ []) (e .seq) ≡ allowedWidths e
+unfolding allowedWidths usualWidths
 usual-allowed e t =
     let a = both-true _ _ t in
     let k = both-true _ _ (a .1) in

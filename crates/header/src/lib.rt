@@ -3,9 +3,8 @@ ghost use mathlib.Core.Path.{_≡_};
 ghost use mathlib.Core.List.{[], _∷_};
 ghost use Prim.Native.Nat.{_+_, _≤_, _<_};
 ghost use lib.ListN.{length};
-ghost use lib.Dec.{eqb};
-ghost use Rattle.num.specs.Choice.{both, oneOf};
-ghost use Rattle.header.specs.Header.{standsAt, begins, hasFlag, encodingAt, fieldsOf, allowedWidths, dimensions, scanPlaceOf, scanPart, scanSettings, scannedOf, headerOf, fitsPacked, packedRecord, arenaEnd};
+ghost use Rattle.num.specs.Choice.{oneOf};
+ghost use Rattle.header.specs.Header.{standsAt, begins, hasFlag, encodingAt, fieldsOf, allowedWidths, usualWidths, dimensions, scanPlaceOf, scanPart, scanSettings, scannedOf, headerOf, fitsPacked, packedRecord, arenaEnd};
 ghost use Rattle.header.specs.Facts.{Dimensions};
 use encoding::Encoding;
 
@@ -28,7 +27,7 @@ pub enum HeaderRead {
 }
 
 // Do these eight bytes stand at a place?
-fn stands_at(section: &[u8], at: usize, bytes: &[u8]) -> bool
+pub fn stands_at(section: &[u8], at: usize, bytes: &[u8]) -> bool
     requires { ⌜ (length (now bytes) ≡ 8) × (at + 8 ≤ length (now section)) ⌝ }
     ensures { λ r. ⌜ r ≡ standsAt (now (section .entry)) at (now (bytes .entry)) ⌝ }
 {
@@ -67,7 +66,7 @@ fn encoding_at(section: &[u8]) -> Encoding
 }
 
 // The header's numbers, without a scan place.
-fn fields(section: &[u8]) -> Opened
+pub fn fields(section: &[u8]) -> Opened
     requires { ⌜ 64 ≤ length (now section) ⌝ }
     ensures { λ r. ⌜ r ≡ fieldsOf (now (section .entry)) ⌝ }
 {
@@ -121,8 +120,8 @@ fn value_allowed(w: usize) -> bool
 }
 
 // The widths, but for that of sequences, of most sections: fewer than 256 bytes to a key and versions of it, and short values.
-fn usual_widths(e: Encoding) -> bool
-    ensures { λ r. ⌜ r ≡ both (eqb (e .address) 4) (both (eqb (e .key) 1) (both (eqb (e .count) 1) (eqb (e .value) 2))) ⌝ }
+pub fn usual_widths(e: Encoding) -> bool
+    ensures { λ r. ⌜ r ≡ usualWidths e ⌝ }
 {
     (e.address == 4) & ((e.key == 1) & ((e.count == 1) & (e.value == 2)))
 }
@@ -149,7 +148,7 @@ pub fn allowed_widths(e: Encoding) -> bool
 }
 
 // Question 4, but for the comparison with the section's length.
-fn dimensions(o: Opened, flags: u32) -> bool
+pub fn dimensions(o: Opened, flags: u32) -> bool
     ensures { λ r. ⌜ r ≡ dimensions o flags ⌝ }
 {
     let n = o.count;

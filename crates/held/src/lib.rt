@@ -14,7 +14,7 @@ use encoding::Encoding;
 use header::HeaderRead;
 
 // Has the header this number in the four bytes at a place? The number is known to be so short: it is compared without widening the bytes.
-fn says(section: &[u8], place: usize, number: u64) -> bool
+pub fn says(section: &[u8], place: usize, number: u64) -> bool
     requires { ⌜ place + 4 ≤ length (now section) ⌝ }
     requires { ⌜ number < 2 ^ 32 ⌝ }
     ensures { λ r. ⌜ r ≡ says (now (section .entry)) place number ⌝ }

@@ -1,3 +1,4 @@
 pub mod Same
+pub mod PackedAnswers
 pub mod Records
 pub mod Packed

@@ -74,29 +74,29 @@ read-from s o first limit four e c = ap₂ (λ (n a : ℕ). valuesFrom n s o lim
 pub told-of : {x y : Answer (List Pair)} → x ≡ y → (l : List ℕ) {r : Spanned} {m : List ℕ} → (r ≡ spannedRead x) × (m ≡ pairsWritten x l) → (r ≡ spannedRead y) × (m ≡ pairsWritten y l)
 told-of e l told = (told .0 ∙ ap spannedRead e, told .1 ∙ ap (λ (a : Answer (List Pair)). pairsWritten a l) e)
 
+-- a refusal's number is answered, and nothing is written
+pub refuses : {x : Answer (List Pair)} {n : ℕ} → x ≡ refused n → (l : List ℕ) → (Refused n ≡ spannedRead x) × (l ≡ pairsWritten x l)
+unfolding spannedRead pairsWritten
+refuses e l = (sym (ap spannedRead e), sym (ap (λ (a : Answer (List Pair)). pairsWritten a l) e))
+
 module _ (s : List ℕ) (o : Opened) (first count limit places : ℕ) where
   abbrev whole : Answer (List Pair)
   whole = spanOf s o first count limit places
 
-  -- a refusal's number is answered, and nothing is written
-  refuses : (n : ℕ) → whole ≡ refused n → (l : List ℕ) → (Refused n ≡ spannedRead whole) × (l ≡ pairsWritten whole l)
-  unfolding spannedRead pairsWritten
-  refuses n e l = (sym (ap spannedRead e), sym (ap (λ (a : Answer (List Pair)). pairsWritten a l) e))
-
   module _ (r : isRecord s o ≡ true) where
-    pub no-scan : scannable o ≡ false → (l : List ℕ) → (Refused 27 ≡ spannedRead whole) × (l ≡ pairsWritten whole l)
+    pub no-scan : scannable o ≡ false → whole ≡ refused 27
     unfolding spanOf
-    no-scan e = refuses 27 (if-true _ _ _ r ∙ if-false _ _ _ e)
+    no-scan e = if-true _ _ _ r ∙ if-false _ _ _ e
 
     module _ (q : scannable o ≡ true) where
-      pub no-keys : leb (first + count) (o .count) ≡ false → (l : List ℕ) → (Refused 28 ≡ spannedRead whole) × (l ≡ pairsWritten whole l)
+      pub no-keys : leb (first + count) (o .count) ≡ false → whole ≡ refused 28
       unfolding spanOf
-      no-keys e = refuses 28 (if-true _ _ _ r ∙ if-true _ _ _ q ∙ if-false _ _ _ e)
+      no-keys e = if-true _ _ _ r ∙ if-true _ _ _ q ∙ if-false _ _ _ e
 
       module _ (k : leb (first + count) (o .count) ≡ true) where
-        pub no-places : places < 2 * count → (l : List ℕ) → (Refused 29 ≡ spannedRead whole) × (l ≡ pairsWritten whole l)
+        pub no-places : places < 2 * count → whole ≡ refused 29
         unfolding spanOf
-        no-places h = refuses 29 (if-true _ _ _ r ∙ if-true _ _ _ q ∙ if-true _ _ _ k ∙ if-false _ _ _ (lt-leb (2 * count) places h))
+        no-places h = if-true _ _ _ r ∙ if-true _ _ _ q ∙ if-true _ _ _ k ∙ if-false _ _ _ (lt-leb (2 * count) places h)
 
         -- then the keys are read, from the scan address of the first
         pub walked : 2 * count ≤ places → valuesFrom count s o limit (scanAddress s o first) ≡ whole

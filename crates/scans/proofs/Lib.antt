@@ -1,2 +1,3 @@
 pub mod Asked
 pub mod Numbers
+pub mod One

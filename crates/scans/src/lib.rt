@@ -7,10 +7,14 @@ ghost use lib.ListN.{length};
 ghost use Rattle.opened.specs.Opened.{isRecord};
 ghost use Rattle.spans.specs.Span.{scannable, scanAddress, valuesFrom, spanOf, pairsWritten, spannedRead, spannedNumber};
 ghost use Rattle.spans.specs.Internal.{Spannable};
+ghost use Rattle.numbers.specs.Numbers.{openedOf};
+ghost use Rattle.usual.specs.Usual.{ScanRecord};
 ghost use Rattle.scans.specs.Spans.{spanOfNumbers, foundWritten};
+ghost use Rattle.scans.specs.Internal.{foundRead};
 use encoding::Encoding;
 use header::Opened;
 use spans::Spanned;
+use wholepairs::KeyRead;
 
 // Question 27.
 fn scannable(o: Opened) -> bool
@@ -36,56 +40,148 @@ fn keys_inside(o: Opened, first: u64, count: u64) -> bool
     first <= all - count
 }
 
-// The values of `count` keys from key `first` on under a limit. Nothing is written before all is read: one key is read once, more of them
-// twice.
-fn scan_values(
+// The values of `count` keys from key `first` on under a limit, one key record behind the other.
+fn walked(
     section: &[u8],
-    o: Opened,
+    numbers: &[u64; 16],
     first: u64,
     count: u64,
     limit: u64,
     pairs: &mut [u64],
 ) -> Spanned
-    requires { ⌜ Spannable o ⌝ }
-    requires { ⌜ o .scan + 24 + 4 * (first + count) + 4 ≤ length (now section) ⌝ }
+    requires { ⌜ Spannable (openedOf (now numbers)) ⌝ }
+    requires { ⌜ openedOf (now numbers) .scan + 24 + 4 * (first + count) + 4 ≤ length (now section) ⌝ }
     requires { ⌜ 2 * count ≤ length (now pairs) ⌝ }
-    ensures { λ r. ⌜ (r ≡ spannedRead (valuesFrom count (now (section .entry)) o limit (scanAddress (now (section .entry)) o first)))
-        × (now (pairs .exit) ≡ pairsWritten (valuesFrom count (now (section .entry)) o limit (scanAddress (now (section .entry)) o first)) (now (pairs .entry))) ⌝ }
+    ensures { λ r. ⌜ (r ≡ spannedRead (valuesFrom count (now (section .entry)) (openedOf (now (numbers .entry))) limit (scanAddress (now (section .entry)) (openedOf (now (numbers .entry))) first)))
+        × (now (pairs .exit) ≡ pairsWritten (valuesFrom count (now (section .entry)) (openedOf (now (numbers .entry))) limit (scanAddress (now (section .entry)) (openedOf (now (numbers .entry))) first)) (now (pairs .entry))) ⌝ }
 {
+    let o = numbers::read_record(numbers);
     let table = o.scan + Encoding::SCAN_HEADER + 4 * first as usize;
     let address = num::u32_at(section, table) as usize;
-    if count == 1 {
-        return spans::one_value(section, o, address, limit, pairs);
-    }
-    if wholekeys::keys_whole(section, o, first, count) {
-        return Spanned::Pairs(wholepairs::put_whole(section, o, first, count, limit, pairs));
-    }
     spans::values_from(section, o, count, address, limit, pairs)
 }
 
-// Questions 27 to 29 and 25, of a record that 24 holds of.
-fn record_span(
+// The same, by the scan addresses where the key records are whole. The record is made of its numbers where it is needed: lent to another
+// function, it would be copied.
+fn scan_values(
     section: &[u8],
-    o: Opened,
+    numbers: &[u64; 16],
     first: u64,
     count: u64,
     limit: u64,
     pairs: &mut [u64],
 ) -> Spanned
-    requires { ⌜ isRecord (now section) o ≡ true ⌝ }
-    ensures { λ r. ⌜ (r ≡ spannedRead (spanOf (now (section .entry)) o first count limit (length (now (pairs .entry)))))
-        × (now (pairs .exit) ≡ pairsWritten (spanOf (now (section .entry)) o first count limit (length (now (pairs .entry)))) (now (pairs .entry))) ⌝ }
+    requires { ⌜ Spannable (openedOf (now numbers)) ⌝ }
+    requires { ⌜ openedOf (now numbers) .scan + 24 + 4 * (first + count) + 4 ≤ length (now section) ⌝ }
+    requires { ⌜ 2 * count ≤ length (now pairs) ⌝ }
+    ensures { λ r. ⌜ (r ≡ spannedRead (valuesFrom count (now (section .entry)) (openedOf (now (numbers .entry))) limit (scanAddress (now (section .entry)) (openedOf (now (numbers .entry))) first)))
+        × (now (pairs .exit) ≡ pairsWritten (valuesFrom count (now (section .entry)) (openedOf (now (numbers .entry))) limit (scanAddress (now (section .entry)) (openedOf (now (numbers .entry))) first)) (now (pairs .entry))) ⌝ }
 {
-    if !scannable(o) {
-        return Spanned::Refused(27);
+    let o = numbers::read_record(numbers);
+    if wholekeys::keys_whole(section, o, first, count) {
+        return Spanned::Pairs(wholepairs::put_whole(section, o, first, count, limit, pairs));
     }
+    walked(section, numbers, first, count, limit, pairs)
+}
+
+// Questions 28, 29 and 25, of a record that 24 and 27 hold of.
+fn record_span(
+    section: &[u8],
+    numbers: &[u64; 16],
+    first: u64,
+    count: u64,
+    limit: u64,
+    pairs: &mut [u64],
+) -> Spanned
+    requires { ⌜ isRecord (now section) (openedOf (now numbers)) ≡ true ⌝ }
+    requires { ⌜ scannable (openedOf (now numbers)) ≡ true ⌝ }
+    ensures { λ r. ⌜ (r ≡ spannedRead (spanOf (now (section .entry)) (openedOf (now (numbers .entry))) first count limit (length (now (pairs .entry)))))
+        × (now (pairs .exit) ≡ pairsWritten (spanOf (now (section .entry)) (openedOf (now (numbers .entry))) first count limit (length (now (pairs .entry)))) (now (pairs .entry))) ⌝ }
+{
+    let o = numbers::read_record(numbers);
     if !keys_inside(o, first, count) {
         return Spanned::Refused(28);
     }
     if pairs.len() as u64 / 2 < count {
         return Spanned::Refused(29);
     }
-    scan_values(section, o, first, count, limit, pairs)
+    scan_values(section, numbers, first, count, limit, pairs)
+}
+
+// All questions, of any record.
+fn general_span(
+    section: &[u8],
+    numbers: &[u64; 16],
+    first: u64,
+    count: u64,
+    limit: u64,
+    pairs: &mut [u64],
+) -> Spanned
+    ensures { λ r. ⌜ (r ≡ spannedRead (spanOfNumbers (now (section .entry)) (now (numbers .entry)) first count limit (length (now (pairs .entry)))))
+        × (now (pairs .exit) ≡ pairsWritten (spanOfNumbers (now (section .entry)) (now (numbers .entry)) first count limit (length (now (pairs .entry)))) (now (pairs .entry))) ⌝ }
+{
+    let o = numbers::read_record(numbers);
+    if !numbers::is_record_numbers(numbers) {
+        return Spanned::Refused(24);
+    }
+    if !opened::is_record(section, o) {
+        return Spanned::Refused(24);
+    }
+    if !scannable(o) {
+        return Spanned::Refused(27);
+    }
+    record_span(section, numbers, first, count, limit, pairs)
+}
+
+// What a span answers: 0 and how many pairs there are, or the number of the question that failed.
+fn answered(spanned: Spanned, found: &mut u64) -> u64
+    ensures { λ r. ⌜ (r ≡ spannedNumber spanned) × (now (found .exit) ≡ foundRead spanned (now (found .entry))) ⌝ }
+{
+    match spanned {
+        Spanned::Pairs(n) => {
+            *found = n;
+            0
+        }
+        Spanned::Refused(n) => n,
+    }
+}
+
+// One key of a record that 24 and 27 hold of.
+fn one_key(
+    section: &[u8],
+    numbers: &[u64; 16],
+    first: u64,
+    limit: u64,
+    pairs: &mut [u64],
+    found: &mut u64,
+) -> u64
+    requires { ⌜ ScanRecord (now section) (now numbers) ⌝ }
+    ensures { λ r. ⌜ (r ≡ spannedNumber (spannedRead (spanOfNumbers (now (section .entry)) (now (numbers .entry)) first 1 limit (length (now (pairs .entry))))))
+        × (now (pairs .exit) ≡ pairsWritten (spanOfNumbers (now (section .entry)) (now (numbers .entry)) first 1 limit (length (now (pairs .entry)))) (now (pairs .entry)))
+        × (now (found .exit) ≡ foundWritten (spanOfNumbers (now (section .entry)) (now (numbers .entry)) first 1 limit (length (now (pairs .entry)))) (now (found .entry))) ⌝ }
+{
+    if numbers[2] <= first {
+        return 28;
+    }
+    if pairs.len() < 2 {
+        return 29;
+    }
+    let o = numbers::read_record(numbers);
+    let table = o.scan + Encoding::SCAN_HEADER + 4 * first as usize;
+    let read = wholepairs::put_key(
+        section,
+        o,
+        num::u32_at(section, table) as usize,
+        limit,
+        pairs,
+    );
+    match read {
+        KeyRead::Written(n) => answered(Spanned::Pairs(n), found),
+        KeyRead::Left => {
+            let spanned = general_span(section, numbers, first, 1, limit, pairs);
+            answered(spanned, found)
+        }
+    }
 }
 
 // The span over sixteen numbers. The result is 0, or the number of the question that failed; how many pairs there are goes to `found`.
@@ -102,16 +198,13 @@ pub fn span(
         × (now (pairs .exit) ≡ pairsWritten (spanOfNumbers (now (section .entry)) (now (numbers .entry)) first count limit (length (now (pairs .entry)))) (now (pairs .entry)))
         × (now (found .exit) ≡ foundWritten (spanOfNumbers (now (section .entry)) (now (numbers .entry)) first count limit (length (now (pairs .entry)))) (now (found .entry))) ⌝ }
 {
-    if !held::holds(section, numbers) {
-        return 24;
+    if !usual::scan_record(section, numbers) {
+        let spanned = general_span(section, numbers, first, count, limit, pairs);
+        return answered(spanned, found);
     }
-    let o = numbers::read_record(numbers);
-    let spanned = record_span(section, o, first, count, limit, pairs);
-    match spanned {
-        Spanned::Pairs(n) => {
-            *found = n;
-            0
-        }
-        Spanned::Refused(n) => n,
+    if count == 1 {
+        return one_key(section, numbers, first, limit, pairs, found);
     }
+    let spanned = record_span(section, numbers, first, count, limit, pairs);
+    answered(spanned, found)
 }

@@ -176,27 +176,6 @@ fn put_values(
     to as u64 / 2
 }
 
-// The value of the key whose record stands at an address: one key is read before its pair is written.
-pub fn one_value(
-    section: &[u8],
-    o: Opened,
-    address: usize,
-    limit: u64,
-    pairs: &mut [u64],
-) -> Spanned
-    requires { ⌜ Spannable o ⌝ }
-    requires { ⌜ address < 2 ^ 32 ⌝ }
-    requires { ⌜ 2 ≤ length (now pairs) ⌝ }
-    ensures { λ r. ⌜ (r ≡ spannedRead (valuesFrom 1 (now (section .entry)) o limit address))
-        × (now (pairs .exit) ≡ pairsWritten (valuesFrom 1 (now (section .entry)) o limit address) (now (pairs .entry))) ⌝ }
-{
-    let read = key_read(section, o, address, limit);
-    if is_failed(read) {
-        return Spanned::Refused(25);
-    }
-    Spanned::Pairs(put_value(section, o, read, pairs, 0) as u64 / 2)
-}
-
 // The values of some keys, one key record behind the other from an address on. All is read before a pair is written.
 pub fn values_from(
     section: &[u8],

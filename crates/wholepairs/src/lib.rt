@@ -5,16 +5,17 @@ ghost use lib.ListN.{length};
 ghost use lib.Seq.{sets};
 ghost use Rattle.encoding.specs.Encoding.{versionLenOf};
 ghost use Rattle.versions.specs.Version.{storedSeq};
-ghost use Rattle.spans.specs.Span.{scanAddress, valueAt, valueFrom, valuesFrom, pairNumbers};
+ghost use Rattle.spans.specs.Span.{scanAddress, valueEnd, valueAt, valueFrom, valuesFrom, pairNumbers};
 ghost use Rattle.spans.specs.Internal.{Spannable, pairsOf};
 ghost use Rattle.wholekeys.specs.Internal.{WholeKeys};
+ghost use Rattle.wholepairs.specs.Internal.{KeyPut};
 use encoding::Encoding;
 use header::Opened;
 
 // Writes the value of the version at a place, unless it is a tombstone, and answers where the next pair goes.
 fn put_version(section: &[u8], o: Opened, pos: usize, pairs: &mut [u64], to: usize) -> usize
     requires { ⌜ Spannable o ⌝ }
-    requires { ⌜ pos + versionLenOf (o .encoding) + 8 ≤ length (now section) ⌝ }
+    requires { ⌜ pos + valueEnd (o .encoding) + 8 ≤ length (now section) ⌝ }
     requires { ⌜ to + 2 ≤ length (now pairs) ⌝ }
     ensures { λ r. ⌜ (r ≡ to + 2 * length (valueAt (now (section .entry)) o pos))
         × (now (pairs .exit) ≡ sets (now (pairs .entry)) to (pairNumbers (valueAt (now (section .entry)) o pos))) ⌝ }
@@ -28,6 +29,43 @@ fn put_version(section: &[u8], o: Opened, pos: usize, pairs: &mut [u64], to: usi
     pairs[to] = num::u32_at(section, value + e.value) as u64;
     pairs[to + 1] = stored;
     to + 2
+}
+
+// What became of a key: so many pairs of it were written, or it is left to the general path.
+pub enum KeyRead {
+    Written(u64),
+    Left,
+}
+
+// Writes the value of the key whose record stands at an address, if it has one version and bytes enough stand behind that.
+pub fn put_key(section: &[u8], o: Opened, address: usize, limit: u64, pairs: &mut [u64]) -> KeyRead
+    requires { ⌜ Spannable o ⌝ }
+    requires { ⌜ address < 2 ^ 32 ⌝ }
+    requires { ⌜ 2 ≤ length (now pairs) ⌝ }
+    ensures { λ r. ⌜ KeyPut r (valuesFrom 1 (now (section .entry)) o limit address) (now (pairs .entry)) (now (pairs .exit)) ⌝ }
+{
+    let e = o.encoding;
+    let pos = o.arena + address;
+    let lengths = pos + e.address + e.key;
+    if section.len() < lengths + e.key + 8 {
+        return KeyRead::Left;
+    }
+    if words::masked(section, lengths + e.key, e.count, words::mask(e.count)) != 1 {
+        return KeyRead::Left;
+    }
+    let suffix_len = words::masked(section, lengths, e.key, words::mask(e.key)) as usize;
+    let from = pos + (e.key_header() + suffix_len);
+    if section.len() < from + e.seq + e.value + e.address + 8 {
+        return KeyRead::Left;
+    }
+    let stored = words::masked(section, from, e.seq, words::mask(e.seq));
+    if 0xFFFF_FFFF_FFFF_FFFF - o.min_seq < stored {
+        return KeyRead::Left;
+    }
+    if limit < o.min_seq + stored {
+        return KeyRead::Written(0);
+    }
+    KeyRead::Written(put_version(section, o, from, pairs, 0) as u64 / 2)
 }
 
 // Writes the value of the first of some versions within the limit, if there is one, and answers where the next pair goes.

@@ -1,10 +1,11 @@
 use mathlib.Core.Path.{refl}
 use Rattle.num.specs.Choice.{both}
+use Rattle.header.specs.Header.{usualWidths}
 use Rattle.header.proofs.usual_widths.Statement.{statement}
 use Rattle.header.proofs.usual_widths.Tie as tie
 
 returns : tie.Need-returns
-unfolding both
+unfolding both usualWidths
 returns c = refl
 
 pub usual-widths-spec : {M : Type 1} → statement M

@@ -1,76 +1,73 @@
-use mathlib.Core.Path.{sym, ap, _∙_}
-use mathlib.Core.List.{List}
+use mathlib.Core.Path.{refl}
 use lib.ListN.{length}
-use Rattle.num.specs.Answer.{Answer}
-use Rattle.lookup.proofs.Tests.{said-yes, said-no}
-use Rattle.spans.specs.Span.{Pair, pairsWritten, spannedRead, spannedNumber}
-use Rattle.scans.specs.Spans.{spanOfNumbers, foundWritten}
-use Rattle.scans.proofs.Numbers.{not-held, held-record, held-span, pairs-outcome, span-refused}
+use borrow.Author.Tests.{not-false}
+use Rattle.scans.proofs.Asked.{told-of}
+use Rattle.scans.proofs.Numbers.{spanned-over, outcome}
 use borrow.Author.Needs.{needs}
 use Rattle.scans.proofs.span.Statement.{statement}
 use Rattle.scans.proofs.span.Tie as tie
 
-holds-requires : tie.Need-holds-requires
-holds-requires c κs = search needs
+scan-record-requires : tie.Need-scan-record-requires
+scan-record-requires c κs = search needs
 
-returns : tie.Need-returns
-unfolding spannedNumber spannedRead pairsWritten foundWritten
-returns c =
-    let a = c .before .before .before .before .args in
-    let e = not-held (a .section .now) (a .numbers .now) (a .first) (a .count) (a .limit) (length (a .pairs .now)) (said-no (c .before .holds .ensures) (c .if1 .taken)) in
-    (rw e, rw e, rw e)
+general-span-requires : tie.Need-general-span-requires
+general-span-requires c κs = search needs
 
-read-record-requires : tie.Need-read-record-requires
-read-record-requires c κs = search needs
-
-record-span-requires : tie.Need-record-span-requires
-record-span-requires c κs =
-    let a = c .before .before .before .before .before .before .args in
-    held-record (a .section .now) (a .numbers .now) (said-yes (c .before .before .before .holds .ensures) (c .before .before .if1 .left)) (c .before .read-record .ensures)
-
-enum-known-spanned : tie.Need-enum-known-spanned
-enum-known-spanned c = search needs
-
-enum-known-spanned-2 : tie.Need-enum-known-spanned-2
-enum-known-spanned-2 c = search needs
+answered-requires : tie.Need-answered-requires
+answered-requires c κs = search needs
 
 same-length : tie.Need-same-length
 same-length c = search needs
 
-returns-2 : tie.Need-returns-2
-returns-2 c =
-    let a = c .before .before .before .before .before .before .before .before .before .before .before .before .args in
-    let whole = spanOfNumbers (a .section .now) (a .numbers .now) (a .first) (a .count) (a .limit) (length (a .pairs .now)) in
-    let is = said-yes (c .before .before .before .before .before .before .before .before .before .holds .ensures) (c .before .before .before .before .before .before .before .before .if1 .left) in
-    let e = held-span (a .section .now) (a .numbers .now) (a .first) (a .count) (a .limit) (length (a .pairs .now)) is (c .before .before .before .before .before .before .before .read-record .ensures) in
-    let told = c .before .before .before .before .before .record-span .ensures in
-    let said = pairs-outcome whole _ (a .found .now) (sym (c .before .spanned .given .1) ∙ told .0 ∙ ap spannedRead e) in
-    (said .0, told .1 ∙ ap (λ (x : Answer (List Pair)). pairsWritten x (a .pairs .now)) e, said .1)
+returns : tie.Need-returns
+returns c =
+    let a = c .before .before .before .before .before .before .before .before .before .before .args in
+    let general = c .before .before .before .before .general-span .ensures in
+    let said = outcome _ (general .0) (a .found .now) (c .answered .ensures) in
+    (said .0, general .1, said .1)
+
+one-key-requires : tie.Need-one-key-requires
+one-key-requires c κs = c .before .before .before .before .scan-record .ensures (not-false _ (c .before .before .before .if1 .left))
 
 same-length-2 : tie.Need-same-length-2
 same-length-2 c = search needs
 
+returns-2 : tie.Need-returns-2
+returns-2 c = rw (c .before .before .before .before .before .if2 .taken) (c .before .before .one-key .ensures)
+
+record-span-requires : tie.Need-record-span-requires
+record-span-requires c κs =
+    let r = c .before .before .before .scan-record .ensures (not-false _ (c .before .before .if1 .left)) in
+    (r .held, r .scans)
+
+answered-requires-2 : tie.Need-answered-requires-2
+answered-requires-2 c κs = search needs
+
+same-length-3 : tie.Need-same-length-3
+same-length-3 c = search needs
+
 returns-3 : tie.Need-returns-3
 returns-3 c =
-    let a = c .before .before .before .before .before .before .before .before .before .before .before .before .args in
-    let whole = spanOfNumbers (a .section .now) (a .numbers .now) (a .first) (a .count) (a .limit) (length (a .pairs .now)) in
-    let is = said-yes (c .before .before .before .before .before .before .before .before .before .holds .ensures) (c .before .before .before .before .before .before .before .before .if1 .left) in
-    let e = held-span (a .section .now) (a .numbers .now) (a .first) (a .count) (a .limit) (length (a .pairs .now)) is (c .before .before .before .before .before .before .before .read-record .ensures) in
-    let told = c .before .before .before .before .before .record-span .ensures in
-    let said = span-refused whole _ (a .found .now) (sym (c .before .spanned2 .given .1) ∙ told .0 ∙ ap spannedRead e) in
-    (said .0, told .1 ∙ ap (λ (x : Answer (List Pair)). pairsWritten x (a .pairs .now)) e, said .1)
+    let a = c .before .before .before .before .before .before .before .before .before .before .before .args in
+    let r = c .before .before .before .before .before .before .before .before .scan-record .ensures (not-false _ (c .before .before .before .before .before .before .before .if1 .left)) in
+    let over = spanned-over (a .section .now) (a .numbers .now) (a .first) (a .count) (a .limit) (length (a .pairs .now)) (r .numbers) refl in
+    let told = told-of over (a .pairs .now) (c .before .before .before .before .record-span .ensures) in
+    let said = outcome _ (told .0) (a .found .now) (c .answered2 .ensures) in
+    (said .0, told .1, said .1)
 
 pub span-spec : {M : Type 1} → statement M
 span-spec =
     tie.close
     (tie.spec
-    holds-requires
-    returns
-    read-record-requires
-    record-span-requires
-    enum-known-spanned
-    enum-known-spanned-2
+    scan-record-requires
+    general-span-requires
+    answered-requires
     same-length
-    returns-2
+    returns
+    one-key-requires
     same-length-2
+    returns-2
+    record-span-requires
+    answered-requires-2
+    same-length-3
     returns-3)

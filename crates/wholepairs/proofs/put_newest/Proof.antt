@@ -7,7 +7,7 @@ use lib.Seq.{sets, length-sets}
 use Rattle.encoding.specs.Encoding.{versionLenOf}
 use Rattle.arena.proofs.Reading.{widths-read}
 use Rattle.locator.proofs.Versions.{stored-sum}
-use Rattle.spans.specs.Span.{Pair, valueAt, valueFrom, pairNumbers}
+use Rattle.spans.specs.Span.{Pair, valueEnd, valueAt, valueFrom, pairNumbers}
 use Rattle.spans.specs.Internal.{pairsOf}
 use Rattle.spans.proofs.Values.{value-none}
 use Rattle.wholepairs.proofs.Versions.{version-room, room-within, room-above}
@@ -57,12 +57,13 @@ add-if1 c =
     omega (arith, pre .1 .0 (loop .pos))
 
 put-version-requires : tie.Need-put-version-requires Inv-loop μ-loop
+unfolding versionLenOf valueEnd
 put-version-requires c κs =
     let loop = c .before .before .before .before .before .loop in
     let args = c .before .before .before .before .before .before .before .before .before .before .before .args in
     let pre = c .before .before .before .before .before .before .before .before .before .before .before .pre in
     let r = version-room (args .section .now) (args .o) (loop .pos) (args .limit) (loop .left) (pre .1 .0) (search needs) (loop .inv .1) in
-    (pre .0, (r .0, omega (arith, pre .1 .1 .1, ap length (loop .inv .0))))
+    (pre .0, (omega (arith, r .0), omega (arith, pre .1 .1 .1, ap length (loop .inv .0))))
 
 same-length : tie.Need-same-length Inv-loop μ-loop
 same-length c =

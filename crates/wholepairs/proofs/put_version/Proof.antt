@@ -1,14 +1,14 @@
 use native.Mathlib.Omega.{arith}
 use lib.ListN.{length-set}
-use Rattle.encoding.specs.Encoding.{versionLenOf}
 use Rattle.arena.proofs.Reading.{widths-read}
+use Rattle.spans.specs.Span.{valueEnd}
 use Rattle.spans.proofs.Values.{none-put, pair-put}
 use borrow.Author.Needs.{needs}
 use Rattle.wholepairs.proofs.put_version.Statement.{statement}
 use Rattle.wholepairs.proofs.put_version.Tie as tie
 
 add-value : tie.Need-add-value
-unfolding versionLenOf
+unfolding valueEnd
 add-value c =
     let pre = c .before .before .before .before .pre in
     omega (arith, pre .1 .0)
@@ -19,7 +19,7 @@ mask-requires c κs =
     widths-read _ (pre .0 .widths) .4
 
 masked-requires : tie.Need-masked-requires
-unfolding versionLenOf
+unfolding valueEnd
 masked-requires c κs =
     let mask = c .mask in
     let pre = c .before .before .before .before .before .pre in
@@ -36,13 +36,13 @@ returns c =
     none-put (args .section .now) (args .o) (args .pos) (tombstone .ensures) (masked .ensures) (search needs) (args .pairs .now) (args .to)
 
 add-u32-at : tie.Need-add-u32-at
-unfolding versionLenOf
+unfolding valueEnd
 add-u32-at c =
     let pre = c .before .before .before .before .before .before .before .before .before .pre in
     omega (arith, pre .1 .0)
 
 u32-at-requires : tie.Need-u32-at-requires
-unfolding versionLenOf
+unfolding valueEnd
 u32-at-requires c κs =
     let pre = c .before .before .before .before .before .before .before .before .before .pre in
     omega (arith, pre .1 .0)

@@ -1,0 +1,87 @@
+// Questions 24 and 27 of the records that most sections with a scan part give, in few instructions: widths as `usual_widths` has them, and
+// sequences of at most four bytes. A span asks them so first, and other records by `opened::is_record`.
+ghost use mathlib.Core.Path.{_≡_};
+ghost use mathlib.Core.Bool.{true};
+ghost use Prim.Native.Nat.{_+_, _*_, _^_, _≤_, _<_};
+ghost use lib.ListN.{length};
+ghost use Rattle.usual.specs.Usual.{usualNumbers, headerSays, startSays, scanSays, ScanRecord};
+use encoding::Encoding;
+
+// The numbers alone: how many keys, the widths, the checksum flag, and not packed.
+fn usual_numbers(numbers: &[u64; 16]) -> bool
+    ensures { λ r. ⌜ r ≡ usualNumbers (now (numbers .entry)) ⌝ }
+{
+    let o = numbers::read_record(numbers);
+    let e = o.encoding;
+    let n = numbers[2];
+    let w = numbers[8];
+    ((0 < n) & (n < 0x8000_0000))
+        & (header::usual_widths(e)
+            & (((0 < w) & ((w <= 4) & (w != 3))) & ((numbers[10] <= 1) & (numbers[12] == 0))))
+}
+
+// The header's widths, seed, least sequence and counts. The widths of addresses and key lengths are read as one number.
+fn header_says(section: &[u8], numbers: &[u64; 16], buckets: u64) -> bool
+    requires { ⌜ 64 ≤ length (now section) ⌝ }
+    requires { ⌜ usualNumbers (now numbers) ≡ true ⌝ }
+    requires { ⌜ buckets < 2 ^ 31 ⌝ }
+    ensures { λ r. ⌜ r ≡ headerSays (now (section .entry)) (now (numbers .entry)) buckets ⌝ }
+{
+    ((num::u64_at(section, 32) == 0x1_0000_0004)
+        & (held::says(section, 40, 1)
+            & (held::says(section, 48, 2) & held::says(section, 44, numbers[8]))))
+        & ((num::u64_at(section, 8) == numbers[0])
+            & ((num::u64_at(section, 56) == numbers[1])
+                & (held::says(section, 16, numbers[2])
+                    & (held::says(section, 20, buckets) & (numbers[3] == buckets)))))
+}
+
+// The arena start, the flags, and the scan place and no number behind it.
+fn start_says(section: &[u8], numbers: &[u64; 16], arena: u64, scan: u64) -> bool
+    requires { ⌜ 64 ≤ length (now section) ⌝ }
+    requires { ⌜ usualNumbers (now numbers) ≡ true ⌝ }
+    ensures { λ r. ⌜ r ≡ startSays (now (section .entry)) (now (numbers .entry)) arena scan ⌝ }
+{
+    ((numbers[13] == 0) & ((numbers[14] == 0) & (numbers[15] == 0)))
+        & ((numbers[4] == arena)
+            & ((num::u64_at(section, 24) == arena)
+                & (held::says(section, 52, numbers[10] + 2)
+                    & ((numbers[11] == scan) & (arena < scan)))))
+}
+
+// The scan part at a place that leaves room for it.
+fn scan_says(section: &[u8], n: u64, scan: usize) -> bool
+    requires { ⌜ scan + (37 + 4 * n) ≡ length (now section) ⌝ }
+    ensures { λ r. ⌜ r ≡ scanSays (now (section .entry)) n scan ⌝ }
+{
+    let prefix = num::u32_at(section, scan + 8);
+    let prefixes = num::u64_at(section, scan + 16);
+    (num::u64_at(section, section.len() - 13) == 24 + 4 * n)
+        & (header::stands_at(section, scan, &Encoding::SCAN_MAGIC)
+            & (((1 <= prefix) & (prefix <= 24))
+                & ((num::u32_at(section, scan + 12) == Encoding::STRIDE)
+                    & ((1 <= prefixes) & (prefixes <= n)))))
+}
+
+// Are these numbers a record that the section gives, plain and with a scan part? A record of other widths is answered with no.
+pub fn scan_record(section: &[u8], numbers: &[u64; 16]) -> bool
+    ensures { λ r. ⌜ (r ≡ true → ScanRecord (now (section .entry)) (now (numbers .entry))) ⌝ }
+{
+    if !header::begins(section) {
+        return false;
+    }
+    if !usual_numbers(numbers) {
+        return false;
+    }
+    let n = numbers[2];
+    let behind = 37 + 4 * n;
+    let all = section.len() as u64;
+    if all < behind {
+        return false;
+    }
+    let scan = all - behind;
+    let buckets = (n + 1) / 2;
+    let arena = 64 + 4 * buckets + 6 * n;
+    header_says(section, numbers, buckets)
+        & (start_says(section, numbers, arena, scan) & scan_says(section, n, scan as usize))
+}
