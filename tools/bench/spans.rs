@@ -52,7 +52,8 @@ impl Asked {
         let ours = repeated(move || {
             black_box(&firsts).iter().fold(0, |sum: u64, &first| {
                 let (asked, mut found) = ([first as u64, count as u64, black_box(limit)], 0);
-                assert_eq!(ours::span(black_box(&section), &record, asked, &mut pairs, &mut found), 0);
+                let section: &Vec<u8> = black_box(&section);
+                assert_eq!(ours::span(section, &record, asked, &mut pairs, &mut found), 0);
                 let given = &black_box(&pairs)[..2 * found as usize];
                 sum.wrapping_add(weighed(found, given.last_chunk().map(|&[offset, length]| (offset, length))))
             })

@@ -190,7 +190,8 @@ fn lookup_row(
     let ours = repeated(move || {
         let mut answer = [0; 6];
         black_box(&asked).chunks_exact(key).fold(0, |sum: u64, key| {
-            let number = ours::lookup(black_box(&section), &record, key, black_box(LIMIT), &mut answer);
+            let section: &Vec<u8> = black_box(&section);
+            let number = ours::lookup(section, &record, key, black_box(LIMIT), &mut answer);
             assert!(number == 0 && answer[0] == u64::from(held));
             sum.wrapping_add(weighed(answer[2], answer[3], answer[4], answer[5]))
         })

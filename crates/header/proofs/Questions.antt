@@ -8,7 +8,7 @@ use native.Mathlib.Omega.{arith}
 use lib.Dec.{eqb, leb}
 use lib.ListN.{length}
 use borrow.Author.Tests.{leb-true, le-leb, lt-leb, ltb-true, lt-ltb, le-ltb, eqb-true, eqb-false, eq-eqb, ne-eqb}
-use Rattle.num.specs.Choice.{both, either, oneOf}
+use Rattle.num.specs.Choice.{either, oneOf}
 use Rattle.num.specs.Number.{Bytes, leAt}
 use Rattle.num.proofs.Choice.{both-no, both-yes, both-true, true-both, same-truth}
 use Rattle.num.proofs.Parts.{equalBytes-number}

@@ -1,5 +1,5 @@
-// Question 24 of sixteen numbers, before a record is made of them: every lookup and every span asks it. Tests that need no other are joined
-// by `&`, which leaves few branches.
+// Question 24 of sixteen numbers, before a record is made of them: every lookup asks it. Tests that need no other are joined by `&`, which
+// leaves few branches.
 ghost use mathlib.Core.Path.{_≡_};
 ghost use mathlib.Core.Bool.{true};
 ghost use Prim.Native.Nat.{_+_, _^_, _≤_, _<_};

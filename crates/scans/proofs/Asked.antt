@@ -66,9 +66,9 @@ module _ (s : List ℕ) (o : Opened) (r : isRecord s o ≡ true) (q : scannable 
 -- ---- the answers
 
 -- keys are read from the scan address of the first
-pub read-from : (s : List ℕ) (o : Opened) (first limit : ℕ) → o .encoding .address ≡ 4 → {a : ℕ} → a ≡ leAt s (o .scan + 24 + 4 * first) 4 → {count n : ℕ} → count ≡ n
-    → valuesFrom n s o limit a ≡ valuesFrom count s o limit (scanAddress s o first)
-read-from s o first limit four e c = ap₂ (λ (n a : ℕ). valuesFrom n s o limit a) (sym c) (e ∙ table-address s o four first refl)
+pub read-from : (s : List ℕ) (o : Opened) (first count limit : ℕ) → o .encoding .address ≡ 4 → {a : ℕ} → a ≡ leAt s (o .scan + 24 + 4 * first) 4
+    → valuesFrom count s o limit a ≡ valuesFrom count s o limit (scanAddress s o first)
+read-from s o first count limit four e = ap (valuesFrom count s o limit) (e ∙ table-address s o four first refl)
 
 -- and what is answered of one answer is answered of the same
 pub told-of : {x y : Answer (List Pair)} → x ≡ y → (l : List ℕ) {r : Spanned} {m : List ℕ} → (r ≡ spannedRead x) × (m ≡ pairsWritten x l) → (r ≡ spannedRead y) × (m ≡ pairsWritten y l)

@@ -10,7 +10,7 @@ use Rattle.header.specs.declared.Opened.{Opened}
 use Rattle.opened.specs.Opened.{isRecord}
 use Rattle.numbers.specs.Numbers.{openedOf, isRecordNumbers}
 use Rattle.spans.specs.declared.Spanned.{Spanned}
-use Rattle.spans.specs.Span.{Pair, spanOf, pairsWritten, spannedRead, spannedNumber}
+use Rattle.spans.specs.Span.{Pair, spanOf, spannedRead, spannedNumber}
 use Rattle.scans.specs.Spans.{spanOfNumbers, foundWritten}
 use Rattle.scans.specs.Internal.{foundRead}
 
@@ -26,12 +26,6 @@ module _ (s numbers : List ℕ) (first count limit places : ℕ) where
   pub no-record : isRecordNumbers numbers ≡ true → isRecord s (openedOf numbers) ≡ false → spanOfNumbers s numbers first count limit places ≡ refused 24
   unfolding spanOf
   no-record e n = sym (spanned-over e refl) ∙ if-false _ _ _ n
-
--- what a refusal leaves
-pub refused-outcome : {x : Answer (List Pair)} {n : ℕ} → x ≡ refused n → (l : List ℕ) (found : ℕ)
-    → (n ≡ spannedNumber (spannedRead x)) × (l ≡ pairsWritten x l) × (found ≡ foundWritten x found)
-unfolding spannedRead spannedNumber pairsWritten foundWritten
-refused-outcome e l found = (rw e, rw e, rw e)
 
 found-read : (x : Answer (List Pair)) (found : ℕ) → foundRead (spannedRead x) found ≡ foundWritten x found
 unfolding spannedRead foundRead foundWritten

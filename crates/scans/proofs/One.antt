@@ -1,14 +1,14 @@
 -- A span of one key, of a record that 24 and 27 hold of.
 -- Assumes nothing.
-use mathlib.Core.Path.{_≡_, refl, sym, ap, _∙_, subst}
+use mathlib.Core.Path.{_≡_, refl, ap, _∙_, subst}
 use mathlib.Core.Bool.{true}
 use mathlib.Core.List.{List}
 use Prim.Native.Nat.{ℕ, _+_, _*_, _<_, _≤_}
 use native.Mathlib.Omega.{arith}
 use lib.Dec.{leb}
 use lib.ListN.{length, getD}
-use borrow.Author.Tests.{le-leb, lt-leb}
-use Rattle.num.specs.Answer.{Answer, refused}
+use borrow.Author.Tests.{le-leb}
+use Rattle.num.specs.Answer.{Answer}
 use Rattle.num.specs.Number.{leAt}
 use Rattle.header.specs.declared.Opened.{Opened}
 use Rattle.numbers.specs.Numbers.{openedOf}
@@ -16,32 +16,21 @@ use Rattle.spans.specs.declared.Spanned.the-variants.{Pairs}
 use Rattle.spans.specs.Span.{Pair, scanAddress, valuesFrom, pairsWritten, spannedRead}
 use Rattle.spans.specs.Internal.{Spannable}
 use Rattle.wholepairs.specs.Internal.{KeyPut}
-use Rattle.wholepairs.specs.declared.KeyRead.{KeyRead}
-use Rattle.wholepairs.specs.declared.KeyRead.the-variants.{Written, Left}
-use Rattle.usual.specs.Usual.{ScanRecord}
+use Rattle.wholepairs.specs.declared.KeyWritten.{KeyWritten}
+use Rattle.wholepairs.specs.declared.KeyWritten.the-variants.{Written, Left}
+use Rattle.usual.specs.Internal.{ScanRecord}
 use Rattle.scans.specs.Spans.{spanOfNumbers}
-use Rattle.scans.proofs.Asked.{spannable, table-inside, read-from, no-keys, no-places, walked}
+use Rattle.scans.proofs.Asked.{spannable, table-inside, read-from, walked}
 use Rattle.scans.proofs.Numbers.{spanned-over}
 
 module _ (s numbers : List ℕ) (r : ScanRecord s numbers) (first limit places : ℕ) where
   abbrev whole : Answer (List Pair)
   whole = spanOfNumbers s numbers first 1 limit places
 
-  pub one-28 : getD numbers 2 0 ≤ first → whole ≡ refused 28
-  unfolding openedOf
-  one-28 h =
-      sym (spanned-over s numbers first 1 limit places (r .numbers) refl)
-      ∙ no-keys s (openedOf numbers) first 1 limit places (r .held) (r .scans) (lt-leb (first + 1) (openedOf numbers .count) (omega arith))
-
   module _ (h : first < getD numbers 2 0) where
     inside : leb (first + 1) (openedOf numbers .count) ≡ true
     unfolding openedOf
     inside = le-leb (first + 1) (openedOf numbers .count) (omega arith)
-
-    pub one-29 : places < 2 → whole ≡ refused 29
-    one-29 l =
-        sym (spanned-over s numbers first 1 limit places (r .numbers) refl)
-        ∙ no-places s (openedOf numbers) first 1 limit places (r .held) (r .scans) inside (omega arith)
 
     module _ {o : Opened} (e : o ≡ openedOf numbers) where
       -- its scan address is read inside the section
@@ -54,20 +43,24 @@ module _ (s numbers : List ℕ) (r : ScanRecord s numbers) (first limit places :
       -- the key that stands there is the span
       pub one-is : {address : ℕ} → address ≡ leAt s (o .scan + 24 + 4 * first) 4 → 2 ≤ places → valuesFrom 1 s o limit address ≡ whole
       one-is ea l =
-          read-from s o first limit (one-spannable .four) ea refl
+          read-from s o first 1 limit (one-spannable .four) ea
           ∙ ap (λ (p : Opened). valuesFrom 1 s p limit (scanAddress s p first)) e
           ∙ walked s (openedOf numbers) first 1 limit places (r .held) (r .scans) inside (omega arith)
           ∙ spanned-over s numbers first 1 limit places (r .numbers) refl
 
-module _ (a : Answer (List Pair)) (before after : List ℕ) {v : KeyRead} (put : KeyPut v a before after) where
+-- what was put of one answer was put of the same
+pub put-over : {a x : Answer (List Pair)} → a ≡ x → (v : KeyWritten) (before after : List ℕ) → KeyPut v a before after → KeyPut v x before after
+put-over e v before after put = subst (λ (y : Answer (List Pair)). KeyPut v y before after) e put
+
+module _ (a : Answer (List Pair)) (before after : List ℕ) {v : KeyWritten} (put : KeyPut v a before after) where
   -- what the key's reader wrote is what the span gives
   pub written-told : {n : ℕ} → v ≡ Written n → (x : Answer (List Pair)) → a ≡ x → (Pairs n ≡ spannedRead x) × (after ≡ pairsWritten x before)
   unfolding KeyPut
   written-told ev x e =
-      let told = subst (λ (k : KeyRead). KeyPut k a before after) ev put in
+      let told = subst (λ (k : KeyWritten). KeyPut k a before after) ev put in
       (told .0 ∙ ap spannedRead e, told .1 ∙ ap (λ (b : Answer (List Pair)). pairsWritten b before) e)
 
   -- and what it leaves it keeps
   pub left-kept : v ≡ Left → after ≡ before
   unfolding KeyPut
-  left-kept ev = subst (λ (k : KeyRead). KeyPut k a before after) ev put
+  left-kept ev = subst (λ (k : KeyWritten). KeyPut k a before after) ev put

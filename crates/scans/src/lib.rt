@@ -8,13 +8,14 @@ ghost use Rattle.opened.specs.Opened.{isRecord};
 ghost use Rattle.spans.specs.Span.{scannable, scanAddress, valuesFrom, spanOf, pairsWritten, spannedRead, spannedNumber};
 ghost use Rattle.spans.specs.Internal.{Spannable};
 ghost use Rattle.numbers.specs.Numbers.{openedOf};
-ghost use Rattle.usual.specs.Usual.{ScanRecord};
+ghost use Rattle.wholepairs.specs.Internal.{KeyPut};
+ghost use Rattle.usual.specs.Internal.{ScanRecord};
 ghost use Rattle.scans.specs.Spans.{spanOfNumbers, foundWritten};
 ghost use Rattle.scans.specs.Internal.{foundRead};
 use encoding::Encoding;
 use header::Opened;
 use spans::Spanned;
-use wholepairs::KeyRead;
+use wholepairs::KeyWritten;
 
 // Question 27.
 fn scannable(o: Opened) -> bool
@@ -40,8 +41,9 @@ fn keys_inside(o: Opened, first: u64, count: u64) -> bool
     first <= all - count
 }
 
-// The values of `count` keys from key `first` on under a limit, one key record behind the other.
-fn walked(
+// The values of `count` keys from key `first` on under a limit, one key record behind the other. It makes the record anew: with one that its
+// caller has too, the caller would keep all its numbers in memory.
+fn walk_keys(
     section: &[u8],
     numbers: &[u64; 16],
     first: u64,
@@ -61,8 +63,7 @@ fn walked(
     spans::values_from(section, o, count, address, limit, pairs)
 }
 
-// The same, by the scan addresses where the key records are whole. The record is made of its numbers where it is needed: lent to another
-// function, it would be copied.
+// The same, by the scan addresses where the key records are whole.
 fn scan_values(
     section: &[u8],
     numbers: &[u64; 16],
@@ -81,7 +82,7 @@ fn scan_values(
     if wholekeys::keys_whole(section, o, first, count) {
         return Spanned::Pairs(wholepairs::put_whole(section, o, first, count, limit, pairs));
     }
-    walked(section, numbers, first, count, limit, pairs)
+    walk_keys(section, numbers, first, count, limit, pairs)
 }
 
 // Questions 28, 29 and 25, of a record that 24 and 27 hold of.
@@ -146,42 +147,27 @@ fn answered(spanned: Spanned, found: &mut u64) -> u64
     }
 }
 
-// One key of a record that 24 and 27 hold of.
+// One key of a record that 24 and 27 hold of. What 28 and 29 refuse is left to the general path.
 fn one_key(
     section: &[u8],
     numbers: &[u64; 16],
     first: u64,
     limit: u64,
     pairs: &mut [u64],
-    found: &mut u64,
-) -> u64
+) -> KeyWritten
     requires { ⌜ ScanRecord (now section) (now numbers) ⌝ }
-    ensures { λ r. ⌜ (r ≡ spannedNumber (spannedRead (spanOfNumbers (now (section .entry)) (now (numbers .entry)) first 1 limit (length (now (pairs .entry))))))
-        × (now (pairs .exit) ≡ pairsWritten (spanOfNumbers (now (section .entry)) (now (numbers .entry)) first 1 limit (length (now (pairs .entry)))) (now (pairs .entry)))
-        × (now (found .exit) ≡ foundWritten (spanOfNumbers (now (section .entry)) (now (numbers .entry)) first 1 limit (length (now (pairs .entry)))) (now (found .entry))) ⌝ }
+    ensures { λ r. ⌜ KeyPut r (spanOfNumbers (now (section .entry)) (now (numbers .entry)) first 1 limit (length (now (pairs .entry)))) (now (pairs .entry)) (now (pairs .exit)) ⌝ }
 {
     if numbers[2] <= first {
-        return 28;
+        return KeyWritten::Left;
     }
     if pairs.len() < 2 {
-        return 29;
+        return KeyWritten::Left;
     }
     let o = numbers::read_record(numbers);
     let table = o.scan + Encoding::SCAN_HEADER + 4 * first as usize;
-    let read = wholepairs::put_key(
-        section,
-        o,
-        num::u32_at(section, table) as usize,
-        limit,
-        pairs,
-    );
-    match read {
-        KeyRead::Written(n) => answered(Spanned::Pairs(n), found),
-        KeyRead::Left => {
-            let spanned = general_span(section, numbers, first, 1, limit, pairs);
-            answered(spanned, found)
-        }
-    }
+    let address = num::u32_at(section, table) as usize;
+    wholepairs::put_key(section, o, address, limit, pairs)
 }
 
 // The span over sixteen numbers. The result is 0, or the number of the question that failed; how many pairs there are goes to `found`.
@@ -202,9 +188,17 @@ pub fn span(
         let spanned = general_span(section, numbers, first, count, limit, pairs);
         return answered(spanned, found);
     }
-    if count == 1 {
-        return one_key(section, numbers, first, limit, pairs, found);
+    if count != 1 {
+        let spanned = record_span(section, numbers, first, count, limit, pairs);
+        return answered(spanned, found);
     }
-    let spanned = record_span(section, numbers, first, count, limit, pairs);
-    answered(spanned, found)
+    let read = one_key(section, numbers, first, limit, pairs);
+    match read {
+        KeyWritten::Written(n) => answered(Spanned::Pairs(n), found),
+        // The general path has two callers and so stays out of line, which keeps this function short.
+        KeyWritten::Left => {
+            let spanned = general_span(section, numbers, first, 1, limit, pairs);
+            answered(spanned, found)
+        }
+    }
 }

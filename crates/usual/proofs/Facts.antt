@@ -22,7 +22,7 @@ use Rattle.numbers.specs.Numbers.{openedOf, isRecordNumbers}
 use Rattle.held.specs.Held.{says}
 use Rattle.held.proofs.Exactly.{few-keys}
 use Rattle.spans.specs.Span.{scannable}
-use Rattle.usual.specs.Usual.{usualNumbers, headerSays, startSays, scanSays, ScanRecord}
+use Rattle.usual.specs.Internal.{usualNumbers, fieldsMatch, startMatches, scanMatches, ScanRecord}
 
 -- a number from 1 to 4 that is not 3 is a width of sequences
 seq-width : (w : ℕ) → 0 < w → w ≤ 4 → (w ≡ 3 → ⊥) → oneOf (1 ∷ 2 ∷ 4 ∷ 8 ∷ []) w ≡ true
@@ -84,8 +84,8 @@ two-widths s bytes e =
 
 module _ (s r : List ℕ) (u : Usual r) where
   -- the tests of the header give the record's numbers; with the scan flag, the checksum flag is what is left of the flags
-  says-numbers : Bytes s → (buckets : ℕ) → headerSays s r buckets ≡ true → leAt s 52 4 ≡ getD r 10 0 + 2 → Numbers s (openedOf r)
-  unfolding headerSays says openedOf
+  says-numbers : Bytes s → (buckets : ℕ) → fieldsMatch s r buckets ≡ true → leAt s 52 4 ≡ getD r 10 0 + 2 → Numbers s (openedOf r)
+  unfolding fieldsMatch says openedOf
   says-numbers bytes buckets t f =
       let a = both-true _ _ t in
       let w = both-true _ _ (a .0) in
@@ -115,8 +115,8 @@ module _ (s r : List ℕ) (u : Usual r) where
   addresses = ap (λ (w : ℕ). getD r 2 0 * w) (u .address) ∙ omega arith
 
   -- the tests of the scan part give questions 5 and 6 at the place that leaves room for it
-  says-scan : (scan : ℕ) → scan + (37 + 4 * getD r 2 0) ≡ length s → getD r 11 0 ≡ scan → getD r 4 0 < scan → scanSays s (getD r 2 0) scan ≡ true → Scan s (openedOf r)
-  unfolding scanSays standsAt scanMagic openedOf
+  says-scan : (scan : ℕ) → scan + (37 + 4 * getD r 2 0) ≡ length s → getD r 11 0 ≡ scan → getD r 4 0 < scan → scanMatches s (getD r 2 0) scan ≡ true → Scan s (openedOf r)
+  unfolding scanMatches standsAt scanMagic openedOf
   says-scan scan room e after t =
       let a = both-true _ _ t in
       let b = both-true _ _ (a .1) in
@@ -146,10 +146,10 @@ module _ (s r : List ℕ) (u : Usual r) where
 
 -- the tests say that the numbers are a record, that the section gives it, and that it can be scanned
 module _ (s r : List ℕ) (bytes : Bytes s) (buckets arena scan : ℕ) where
-  pub scan-record : begins s ≡ true → usualNumbers r ≡ true → headerSays s r buckets ≡ true → startSays s r arena scan ≡ true
-      → scanSays s (getD r 2 0) scan ≡ true → buckets ≡ (getD r 2 0 + 1) / 2 → arena ≡ 64 + 4 * buckets + 6 * getD r 2 0
+  pub scan-record : begins s ≡ true → usualNumbers r ≡ true → fieldsMatch s r buckets ≡ true → startMatches s r arena scan ≡ true
+      → scanMatches s (getD r 2 0) scan ≡ true → buckets ≡ (getD r 2 0 + 1) / 2 → arena ≡ 64 + 4 * buckets + 6 * getD r 2 0
       → scan + (37 + 4 * getD r 2 0) ≡ length s → ScanRecord s r
-  unfolding headerSays startSays says isRecordNumbers scannable openedOf
+  unfolding fieldsMatch startMatches says isRecordNumbers scannable openedOf
   scan-record b n h t p halved starts room =
       let u = usual-yes r n in
       let a = both-true _ _ t in

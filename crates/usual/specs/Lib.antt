@@ -1,1 +1,1 @@
-pub mod Usual
+pub mod Internal

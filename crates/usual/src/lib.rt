@@ -1,10 +1,10 @@
 // Questions 24 and 27 of the records that most sections with a scan part give, in few instructions: widths as `usual_widths` has them, and
-// sequences of at most four bytes. A span asks them so first, and other records by `opened::is_record`.
+// sequences of at most four bytes. A span asks them so first, and after a no one by one.
 ghost use mathlib.Core.Path.{_≡_};
 ghost use mathlib.Core.Bool.{true};
 ghost use Prim.Native.Nat.{_+_, _*_, _^_, _≤_, _<_};
 ghost use lib.ListN.{length};
-ghost use Rattle.usual.specs.Usual.{usualNumbers, headerSays, startSays, scanSays, ScanRecord};
+ghost use Rattle.usual.specs.Internal.{usualNumbers, fieldsMatch, startMatches, scanMatches, ScanRecord};
 use encoding::Encoding;
 
 // The numbers alone: how many keys, the widths, the checksum flag, and not packed.
@@ -21,11 +21,11 @@ fn usual_numbers(numbers: &[u64; 16]) -> bool
 }
 
 // The header's widths, seed, least sequence and counts. The widths of addresses and key lengths are read as one number.
-fn header_says(section: &[u8], numbers: &[u64; 16], buckets: u64) -> bool
+fn fields_match(section: &[u8], numbers: &[u64; 16], buckets: u64) -> bool
     requires { ⌜ 64 ≤ length (now section) ⌝ }
     requires { ⌜ usualNumbers (now numbers) ≡ true ⌝ }
     requires { ⌜ buckets < 2 ^ 31 ⌝ }
-    ensures { λ r. ⌜ r ≡ headerSays (now (section .entry)) (now (numbers .entry)) buckets ⌝ }
+    ensures { λ r. ⌜ r ≡ fieldsMatch (now (section .entry)) (now (numbers .entry)) buckets ⌝ }
 {
     ((num::u64_at(section, 32) == 0x1_0000_0004)
         & (held::says(section, 40, 1)
@@ -36,11 +36,11 @@ fn header_says(section: &[u8], numbers: &[u64; 16], buckets: u64) -> bool
                     & (held::says(section, 20, buckets) & (numbers[3] == buckets)))))
 }
 
-// The arena start, the flags, and the scan place and no number behind it.
-fn start_says(section: &[u8], numbers: &[u64; 16], arena: u64, scan: u64) -> bool
+// The arena start, the flags, the scan place, and nothing in the last three places.
+fn start_matches(section: &[u8], numbers: &[u64; 16], arena: u64, scan: u64) -> bool
     requires { ⌜ 64 ≤ length (now section) ⌝ }
     requires { ⌜ usualNumbers (now numbers) ≡ true ⌝ }
-    ensures { λ r. ⌜ r ≡ startSays (now (section .entry)) (now (numbers .entry)) arena scan ⌝ }
+    ensures { λ r. ⌜ r ≡ startMatches (now (section .entry)) (now (numbers .entry)) arena scan ⌝ }
 {
     ((numbers[13] == 0) & ((numbers[14] == 0) & (numbers[15] == 0)))
         & ((numbers[4] == arena)
@@ -49,10 +49,10 @@ fn start_says(section: &[u8], numbers: &[u64; 16], arena: u64, scan: u64) -> boo
                     & ((numbers[11] == scan) & (arena < scan)))))
 }
 
-// The scan part at a place that leaves room for it.
-fn scan_says(section: &[u8], n: u64, scan: usize) -> bool
+// The scan part at a place that leaves room for it: 24 bytes of its header, four for each key, eight for its length, and the last five.
+fn scan_matches(section: &[u8], n: u64, scan: usize) -> bool
     requires { ⌜ scan + (37 + 4 * n) ≡ length (now section) ⌝ }
-    ensures { λ r. ⌜ r ≡ scanSays (now (section .entry)) n scan ⌝ }
+    ensures { λ r. ⌜ r ≡ scanMatches (now (section .entry)) n scan ⌝ }
 {
     let prefix = num::u32_at(section, scan + 8);
     let prefixes = num::u64_at(section, scan + 16);
@@ -82,6 +82,6 @@ pub fn scan_record(section: &[u8], numbers: &[u64; 16]) -> bool
     let scan = all - behind;
     let buckets = (n + 1) / 2;
     let arena = 64 + 4 * buckets + 6 * n;
-    header_says(section, numbers, buckets)
-        & (start_says(section, numbers, arena, scan) & scan_says(section, n, scan as usize))
+    fields_match(section, numbers, buckets)
+        & (start_matches(section, numbers, arena, scan) & scan_matches(section, n, scan as usize))
 }

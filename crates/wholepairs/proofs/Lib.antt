@@ -1,3 +1,3 @@
 pub mod Versions
 pub mod Keys
-pub mod One
+pub mod First

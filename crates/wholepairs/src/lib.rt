@@ -32,13 +32,20 @@ fn put_version(section: &[u8], o: Opened, pos: usize, pairs: &mut [u64], to: usi
 }
 
 // What became of a key: so many pairs of it were written, or it is left to the general path.
-pub enum KeyRead {
+pub enum KeyWritten {
     Written(u64),
     Left,
 }
 
-// Writes the value of the key whose record stands at an address, if it has one version and bytes enough stand behind that.
-pub fn put_key(section: &[u8], o: Opened, address: usize, limit: u64, pairs: &mut [u64]) -> KeyRead
+// Writes the value of the key whose record stands at an address, if its first version is within the limit or its only one. What has too few
+// bytes behind it, or a sum beyond 64 bits, is left.
+pub fn put_key(
+    section: &[u8],
+    o: Opened,
+    address: usize,
+    limit: u64,
+    pairs: &mut [u64],
+) -> KeyWritten
     requires { ⌜ Spannable o ⌝ }
     requires { ⌜ address < 2 ^ 32 ⌝ }
     requires { ⌜ 2 ≤ length (now pairs) ⌝ }
@@ -48,24 +55,29 @@ pub fn put_key(section: &[u8], o: Opened, address: usize, limit: u64, pairs: &mu
     let pos = o.arena + address;
     let lengths = pos + e.address + e.key;
     if section.len() < lengths + e.key + 8 {
-        return KeyRead::Left;
+        return KeyWritten::Left;
     }
-    if words::masked(section, lengths + e.key, e.count, words::mask(e.count)) != 1 {
-        return KeyRead::Left;
+    let versions = words::masked(section, lengths + e.key, e.count, words::mask(e.count));
+    if versions == 0 {
+        return KeyWritten::Left;
     }
     let suffix_len = words::masked(section, lengths, e.key, words::mask(e.key)) as usize;
     let from = pos + (e.key_header() + suffix_len);
     if section.len() < from + e.seq + e.value + e.address + 8 {
-        return KeyRead::Left;
+        return KeyWritten::Left;
     }
     let stored = words::masked(section, from, e.seq, words::mask(e.seq));
     if 0xFFFF_FFFF_FFFF_FFFF - o.min_seq < stored {
-        return KeyRead::Left;
+        return KeyWritten::Left;
     }
     if limit < o.min_seq + stored {
-        return KeyRead::Written(0);
+        return if versions == 1 {
+            KeyWritten::Written(0)
+        } else {
+            KeyWritten::Left
+        };
     }
-    KeyRead::Written(put_version(section, o, from, pairs, 0) as u64 / 2)
+    KeyWritten::Written(put_version(section, o, from, pairs, 0) as u64 / 2)
 }
 
 // Writes the value of the first of some versions within the limit, if there is one, and answers where the next pair goes.

@@ -40,8 +40,8 @@ returns c =
     told-of (ap (λ (o : Opened). valuesFrom (a .count) (a .section .now) o (a .limit) (scanAddress (a .section .now) o (a .first))) e) (a .pairs .now)
     (given-told _ (a .pairs .now) (whole-given (a .section .now) _ (a .first) (a .count) whole (λ n. known .given n .fits) four (a .limit)) (put .0) (put .1))
 
-walked-requires : tie.Need-walked-requires
-walked-requires c κs = search needs
+walk-keys-requires : tie.Need-walk-keys-requires
+walk-keys-requires c κs = search needs
 
 same-length-2 : tie.Need-same-length-2
 same-length-2 c = search needs
@@ -58,6 +58,6 @@ scan-values-spec =
     put-whole-requires
     same-length
     returns
-    walked-requires
+    walk-keys-requires
     same-length-2
     returns-2)

@@ -1,8 +1,14 @@
-use mathlib.Core.Path.{refl}
+use mathlib.Core.Path.{_≡_, refl, sym, ap, ap₂, _∙_}
+use mathlib.Core.List.{List}
+use Prim.Native.Nat.{ℕ}
 use lib.ListN.{length}
 use borrow.Author.Tests.{not-false}
+use Rattle.num.specs.Answer.{Answer}
+use Rattle.spans.specs.Span.{Pair, pairsWritten, spannedRead}
+use Rattle.scans.specs.Spans.{spanOfNumbers}
 use Rattle.scans.proofs.Asked.{told-of}
 use Rattle.scans.proofs.Numbers.{spanned-over, outcome}
+use Rattle.scans.proofs.One.{written-told, left-kept}
 use borrow.Author.Needs.{needs}
 use Rattle.scans.proofs.span.Statement.{statement}
 use Rattle.scans.proofs.span.Tie as tie
@@ -26,15 +32,6 @@ returns c =
     let said = outcome _ (general .0) (a .found .now) (c .answered .ensures) in
     (said .0, general .1, said .1)
 
-one-key-requires : tie.Need-one-key-requires
-one-key-requires c κs = c .before .before .before .before .scan-record .ensures (not-false _ (c .before .before .before .if1 .left))
-
-same-length-2 : tie.Need-same-length-2
-same-length-2 c = search needs
-
-returns-2 : tie.Need-returns-2
-returns-2 c = rw (c .before .before .before .before .before .if2 .taken) (c .before .before .one-key .ensures)
-
 record-span-requires : tie.Need-record-span-requires
 record-span-requires c κs =
     let r = c .before .before .before .scan-record .ensures (not-false _ (c .before .before .if1 .left)) in
@@ -43,17 +40,61 @@ record-span-requires c κs =
 answered-requires-2 : tie.Need-answered-requires-2
 answered-requires-2 c κs = search needs
 
-same-length-3 : tie.Need-same-length-3
-same-length-3 c = search needs
+same-length-2 : tie.Need-same-length-2
+same-length-2 c = search needs
 
-returns-3 : tie.Need-returns-3
-returns-3 c =
+returns-2 : tie.Need-returns-2
+returns-2 c =
     let a = c .before .before .before .before .before .before .before .before .before .before .before .args in
     let r = c .before .before .before .before .before .before .before .before .scan-record .ensures (not-false _ (c .before .before .before .before .before .before .before .if1 .left)) in
     let over = spanned-over (a .section .now) (a .numbers .now) (a .first) (a .count) (a .limit) (length (a .pairs .now)) (r .numbers) refl in
     let told = told-of over (a .pairs .now) (c .before .before .before .before .record-span .ensures) in
     let said = outcome _ (told .0) (a .found .now) (c .answered2 .ensures) in
     (said .0, told .1, said .1)
+
+one-key-requires : tie.Need-one-key-requires
+one-key-requires c κs = c .before .before .before .scan-record .ensures (not-false _ (c .before .before .if1 .left))
+
+enum-known-read : tie.Need-enum-known-read
+enum-known-read c = search needs
+
+answered-requires-3 : tie.Need-answered-requires-3
+answered-requires-3 c κs = search needs
+
+enum-told : tie.Need-enum-told
+enum-told c = search needs
+
+general-span-requires-2 : tie.Need-general-span-requires-2
+general-span-requires-2 c κs = search needs
+
+answered-requires-4 : tie.Need-answered-requires-4
+answered-requires-4 c κs = search needs
+
+same-length-3 : tie.Need-same-length-3
+same-length-3 c = search needs
+
+returns-3 : tie.Need-returns-3
+returns-3 c =
+    let a = c .before .before .before .before .before .before .before .before .before .before .before .before .before .before .args in
+    let one : a .count ≡ 1 = c .before .before .before .before .before .before .before .before .before .if2 .left in
+    let e = ap (λ (n : ℕ). spanOfNumbers (a .section .now) (a .numbers .now) (a .first) n (a .limit) (length (a .pairs .now))) (sym one) in
+    let told = written-told _ (a .pairs .now) _ (c .before .before .before .before .before .before .before .one-key .ensures) (c .before .before .before .read .given .1) _ e in
+    let said = outcome _ (told .0) (a .found .now) (c .answered3 .ensures) in
+    (said .0, told .1, said .1)
+
+same-length-4 : tie.Need-same-length-4
+same-length-4 c = search needs
+
+returns-4 : tie.Need-returns-4
+returns-4 c =
+    let a = c .before .before .before .before .before .before .before .before .before .before .before .before .before .before .before .before .before .args in
+    let one : a .count ≡ 1 = c .before .before .before .before .before .before .before .before .before .before .before .before .if2 .left in
+    let kept = left-kept _ (a .pairs .now) _ (c .before .before .before .before .before .before .before .before .before .before .one-key .ensures) (c .before .before .before .before .before .before .enum-told .given .1) in
+    let general = c .before .before .before .before .general-span2 .ensures in
+    let x : ℕ → List ℕ → Answer (List Pair) = λ n l. spanOfNumbers (a .section .now) (a .numbers .now) (a .first) n (a .limit) (length l) in
+    let e = ap (x 1) kept ∙ ap (λ (n : ℕ). x n (a .pairs .now)) (sym one) in
+    let said = outcome _ (general .0 ∙ ap spannedRead e) (a .found .now) (c .answered4 .ensures) in
+    (said .0, general .1 ∙ ap₂ pairsWritten e kept, said .1)
 
 pub span-spec : {M : Type 1} → statement M
 span-spec =
@@ -64,10 +105,17 @@ span-spec =
     answered-requires
     same-length
     returns
-    one-key-requires
-    same-length-2
-    returns-2
     record-span-requires
     answered-requires-2
+    same-length-2
+    returns-2
+    one-key-requires
+    enum-known-read
+    answered-requires-3
+    enum-told
+    general-span-requires-2
+    answered-requires-4
     same-length-3
-    returns-3)
+    returns-3
+    same-length-4
+    returns-4)

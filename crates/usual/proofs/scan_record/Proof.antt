@@ -48,36 +48,36 @@ mul-arena-2 c = search needs
 add-arena-2 : tie.Need-add-arena-2
 add-arena-2 c = search needs
 
-header-says-requires : tie.Need-header-says-requires
-header-says-requires c κs =
+fields-match-requires : tie.Need-fields-match-requires
+fields-match-requires c κs =
     let l = begins-yes _ (sym (c .before .before .before .before .before .begins .ensures) ∙ not-false _ (c .before .before .before .before .if1 .left)) .long in
     let t = sym (c .before .before .before .usual-numbers .ensures) ∙ not-false _ (c .before .before .if2 .left) in
     let f = usual-yes _ t .few in
     (omega arith, (t, omega arith))
 
-start-says-requires : tie.Need-start-says-requires
-start-says-requires c κs =
+start-matches-requires : tie.Need-start-matches-requires
+start-matches-requires c κs =
     let k = c .before .before .before in
     let l = begins-yes _ (sym (k .before .before .before .begins .ensures) ∙ not-false _ (k .before .before .if1 .left)) .long in
     (omega arith, sym (k .before .usual-numbers .ensures) ∙ not-false _ (k .if2 .left))
 
-scan-says-requires : tie.Need-scan-says-requires
-scan-says-requires c κs = search needs
+scan-matches-requires : tie.Need-scan-matches-requires
+scan-matches-requires c κs = search needs
 
 returns-4 : tie.Need-returns-4
 unfolding both
 returns-4 c e =
     let k = c .before .before .before .before .before in
     let begin = k .before .before .before .before .before .args in
-    let h = both-true (c .before .before .header-says .result) _ e in
-    let t = both-true (c .before .start-says .result) _ (h .1) in
+    let h = both-true (c .before .before .fields-match .result) _ e in
+    let t = both-true (c .before .start-matches .result) _ (h .1) in
     let room = c .before .before .before .if3 .left in
     scan-record (begin .section .now) (begin .numbers .now) (λ n. k .before .before .before .before .shared-slice-known .given n .fits) _ _ _
     (sym (k .before .before .before .begins .ensures) ∙ not-false _ (k .before .before .if1 .left))
     (sym (k .before .usual-numbers .ensures) ∙ not-false _ (k .if2 .left))
-    (sym (c .before .before .header-says .ensures) ∙ h .0)
-    (sym (c .before .start-says .ensures) ∙ t .0)
-    (sym (c .scan-says .ensures) ∙ t .1)
+    (sym (c .before .before .fields-match .ensures) ∙ h .0)
+    (sym (c .before .start-matches .ensures) ∙ t .0)
+    (sym (c .scan-matches .ensures) ∙ t .1)
     refl
     refl
     (omega arith)
@@ -99,7 +99,7 @@ scan-record-spec =
     add-arena
     mul-arena-2
     add-arena-2
-    header-says-requires
-    start-says-requires
-    scan-says-requires
+    fields-match-requires
+    start-matches-requires
+    scan-matches-requires
     returns-4)

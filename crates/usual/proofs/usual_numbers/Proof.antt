@@ -6,7 +6,7 @@ use lib.ListN.{getD}
 use Rattle.num.specs.Choice.{both}
 use Rattle.header.specs.declared.Opened.{Opened}
 use Rattle.header.specs.Header.{usualWidths}
-use Rattle.usual.specs.Usual.{usualNumbers}
+use Rattle.usual.specs.Internal.{usualNumbers}
 use borrow.Author.Needs.{needs}
 use Rattle.usual.proofs.usual_numbers.Statement.{statement}
 use Rattle.usual.proofs.usual_numbers.Tie as tie

@@ -8,7 +8,7 @@ use Rattle.arena.proofs.Reading.{widths-read}
 use Rattle.locator.proofs.Versions.{stored-sum}
 use Rattle.spans.specs.Span.{valueEnd, pairNumbers}
 use Rattle.wholepairs.specs.Internal.{KeyPut}
-use Rattle.wholepairs.proofs.One.{suffix-small, one-within, one-above, put-told}
+use Rattle.wholepairs.proofs.First.{suffix-small, first-within, first-above, put-told}
 use borrow.Author.Needs.{needs}
 use Rattle.wholepairs.proofs.put_key.Statement.{statement}
 use Rattle.wholepairs.proofs.put_key.Tie as tie
@@ -194,17 +194,21 @@ add-if5 c = search needs
 returns-5 : tie.Need-returns-5
 unfolding valueEnd pairNumbers
 returns-5 c =
-    let masked3 = c .before .before .before .before .masked3 in
-    let key-header = c .before .before .before .before .before .before .before .before .before .before .key-header in
-    let masked2 = c .before .before .before .before .before .before .before .before .before .before .before .masked2 in
-    let if2 = c .before .before .before .before .before .before .before .before .before .before .before .before .before .if2 in
-    let masked = c .before .before .before .before .before .before .before .before .before .before .before .before .before .before .masked in
-    let args = c .before .before .before .before .before .before .before .before .before .before .before .before .before .before .before .before .before .before .before .before .before .before .before .before .before .args in
+    let masked3 = c .before .before .before .before .before .masked3 in
+    let key-header = c .before .before .before .before .before .before .before .before .before .before .before .key-header in
+    let masked2 = c .before .before .before .before .before .before .before .before .before .before .before .before .masked2 in
+    let if2 = c .before .before .before .before .before .before .before .before .before .before .before .before .before .before .if2 in
+    let masked = c .before .before .before .before .before .before .before .before .before .before .before .before .before .before .before .masked in
+    let args = c .before .before .before .before .before .before .before .before .before .before .before .before .before .before .before .before .before .before .before .before .before .before .before .before .before .before .args in
     let from = args .o .arena + args .address + (key-header .result + masked2 .result) in
     let e = stored-sum (args .section .now) (args .o) from (masked3 .ensures) in
-    let v = one-above (args .section .now) (args .o) (args .limit) (args .address) (masked2 .ensures) (key-header .ensures) (masked .ensures) (omega (arith, if2 .left))
-    (search needs) (omega arith) (omega arith) in
+    let v = first-above (args .section .now) (args .o) (args .limit) (args .address) (masked2 .ensures) (key-header .ensures) (masked .ensures) (omega (arith, if2 .left))
+    (search needs) (omega arith) (omega arith) (omega (arith, c .if6 .taken)) in
     put-told _ [] (args .pairs .now) v refl refl
+
+returns-6 : tie.Need-returns-6
+unfolding KeyPut
+returns-6 c = refl
 
 put-version-requires : tie.Need-put-version-requires
 unfolding valueEnd
@@ -215,9 +219,9 @@ put-version-requires c κs =
 same-length : tie.Need-same-length
 same-length c = search needs
 
-returns-6 : tie.Need-returns-6
+returns-7 : tie.Need-returns-7
 unfolding valueEnd
-returns-6 c =
+returns-7 c =
     let put-version = c .before .before .put-version in
     let masked3 = c .before .before .before .before .before .before .before .before .masked3 in
     let key-header = c .before .before .before .before .before .before .before .before .before .before .before .before .before .before .key-header in
@@ -227,7 +231,7 @@ returns-6 c =
     let args = c .before .before .before .before .before .before .before .before .before .before .before .before .before .before .before .before .before .before .before .before .before .before .before .before .before .before .before .before .before .args in
     let from = args .o .arena + args .address + (key-header .result + masked2 .result) in
     let e = stored-sum (args .section .now) (args .o) from (masked3 .ensures) in
-    let v = one-within (args .section .now) (args .o) (args .limit) (args .address) (masked2 .ensures) (key-header .ensures) (masked .ensures) (omega (arith, if2 .left))
+    let v = first-within (args .section .now) (args .o) (args .limit) (args .address) (masked2 .ensures) (key-header .ensures) (masked .ensures) (omega (arith, if2 .left))
     (search needs) (omega arith) (omega arith) in
     put-told _ _ (args .pairs .now) v (omega (arith, put-version .ensures .0)) (put-version .ensures .1)
 
@@ -261,6 +265,7 @@ put-key-spec =
     returns-4
     add-if5
     returns-5
+    returns-6
     put-version-requires
     same-length
-    returns-6)
+    returns-7)

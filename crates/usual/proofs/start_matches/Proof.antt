@@ -5,11 +5,11 @@ use native.Mathlib.Omega.{arith}
 use lib.Dec.{eqb, ltb}
 use lib.ListN.{getD}
 use Rattle.num.specs.Choice.{both}
-use Rattle.usual.specs.Usual.{startSays}
+use Rattle.usual.specs.Internal.{startMatches}
 use Rattle.usual.proofs.Facts.{usual-yes}
 use borrow.Author.Needs.{needs}
-use Rattle.usual.proofs.start_says.Statement.{statement}
-use Rattle.usual.proofs.start_says.Tie as tie
+use Rattle.usual.proofs.start_matches.Statement.{statement}
+use Rattle.usual.proofs.start_matches.Tie as tie
 
 element-copy-out-result : tie.Need-element-copy-out-result
 element-copy-out-result c = search needs
@@ -39,7 +39,7 @@ element-copy-out-result-5 : tie.Need-element-copy-out-result-5
 element-copy-out-result-5 c = search needs
 
 returns : tie.Need-returns
-unfolding startSays both
+unfolding startMatches both
 returns c =
     let a = c .before .before .before .before .before .before .before .before .before .args in
     let r = a .numbers .now in
@@ -48,8 +48,8 @@ returns c =
     (c .before .before .before .u64-at .ensures)
     (c .before .says .ensures)
 
-pub start-says-spec : {M : Type 1} → statement M
-start-says-spec =
+pub start-matches-spec : {M : Type 1} → statement M
+start-matches-spec =
     tie.close
     (tie.spec
     element-copy-out-result

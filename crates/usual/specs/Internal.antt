@@ -23,17 +23,17 @@ usualNumbers r =
     (both (leb (getD r 10 0) 1) (eqb (getD r 12 0) 0))))
 
 -- the header's widths, seed, least sequence and counts
-unfoldable pub headerSays : List ℕ → List ℕ → ℕ → Bool
-headerSays s r buckets =
+unfoldable pub fieldsMatch : List ℕ → List ℕ → ℕ → Bool
+fieldsMatch s r buckets =
     both (both (eqb (leAt s 32 8) (2 ^ 32 + 4)) (both (says s 40 1) (both (says s 48 2) (says s 44 (getD r 8 0)))))
     (both (eqb (leAt s 8 8) (getD r 0 0))
     (both (eqb (leAt s 56 8) (getD r 1 0))
     (both (says s 16 (getD r 2 0))
     (both (says s 20 buckets) (eqb (getD r 3 0) buckets)))))
 
--- the arena start, the flags, and the scan place and no number behind it
-unfoldable pub startSays : List ℕ → List ℕ → ℕ → ℕ → Bool
-startSays s r arena scan =
+-- the arena start, the flags, the scan place, and nothing in the last three places
+unfoldable pub startMatches : List ℕ → List ℕ → ℕ → ℕ → Bool
+startMatches s r arena scan =
     both (both (eqb (getD r 13 0) 0) (both (eqb (getD r 14 0) 0) (eqb (getD r 15 0) 0)))
     (both (eqb (getD r 4 0) arena)
     (both (eqb (leAt s 24 8) arena)
@@ -41,8 +41,8 @@ startSays s r arena scan =
     (both (eqb (getD r 11 0) scan) (ltb arena scan)))))
 
 -- the scan part of n keys at a place
-unfoldable pub scanSays : List ℕ → ℕ → ℕ → Bool
-scanSays s n scan =
+unfoldable pub scanMatches : List ℕ → ℕ → ℕ → Bool
+scanMatches s n scan =
     both (eqb (leAt s (length s - 13) 8) (24 + 4 * n))
     (both (standsAt s scan scanMagic)
     (both (both (leb 1 (leAt s (scan + 8) 4)) (leb (leAt s (scan + 8) 4) 24))

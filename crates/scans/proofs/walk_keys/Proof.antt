@@ -5,8 +5,8 @@ use Rattle.spans.specs.Span.{scanAddress, valuesFrom}
 use Rattle.spans.specs.Internal.{Spannable}
 use Rattle.scans.proofs.Asked.{read-from, told-of}
 use borrow.Author.Needs.{needs}
-use Rattle.scans.proofs.walked.Statement.{statement}
-use Rattle.scans.proofs.walked.Tie as tie
+use Rattle.scans.proofs.walk_keys.Statement.{statement}
+use Rattle.scans.proofs.walk_keys.Tie as tie
 
 read-record-requires : tie.Need-read-record-requires
 read-record-requires c κs = search needs
@@ -46,11 +46,11 @@ returns c =
     let a = s .args in
     let e = c .before .before .before .before .before .before .read-record .ensures in
     let four = ap (λ (o : Opened). o .encoding .address) e ∙ s .pre .0 .four in
-    let read = read-from (a .section .now) _ (a .first) (a .limit) four (c .before .before .before .before .u32-at .ensures) refl in
+    let read = read-from (a .section .now) _ (a .first) (a .count) (a .limit) four (c .before .before .before .before .u32-at .ensures) in
     told-of (read ∙ ap (λ (o : Opened). valuesFrom (a .count) (a .section .now) o (a .limit) (scanAddress (a .section .now) o (a .first))) e) (a .pairs .now) (c .before .before .values-from .ensures)
 
-pub walked-spec : {M : Type 1} → statement M
-walked-spec =
+pub walk-keys-spec : {M : Type 1} → statement M
+walk-keys-spec =
     tie.close
     (tie.spec
     read-record-requires

@@ -5,11 +5,11 @@ use native.Mathlib.Omega.{arith}
 use lib.Dec.{eqb}
 use lib.ListN.{getD}
 use Rattle.num.specs.Choice.{both}
-use Rattle.usual.specs.Usual.{headerSays}
+use Rattle.usual.specs.Internal.{fieldsMatch}
 use Rattle.usual.proofs.Facts.{usual-yes}
 use borrow.Author.Needs.{needs}
-use Rattle.usual.proofs.header_says.Statement.{statement}
-use Rattle.usual.proofs.header_says.Tie as tie
+use Rattle.usual.proofs.fields_match.Statement.{statement}
+use Rattle.usual.proofs.fields_match.Tie as tie
 
 u64-at-requires : tie.Need-u64-at-requires
 u64-at-requires c κs = search needs
@@ -51,7 +51,7 @@ element-copy-out-result-3 : tie.Need-element-copy-out-result-3
 element-copy-out-result-3 c = search needs
 
 returns : tie.Need-returns
-unfolding headerSays both
+unfolding fieldsMatch both
 returns c =
     let r = c .before .before .before .before .before .before .before .before .before .before .before .before .before .before .args .numbers .now in
     ap₂ both
@@ -61,8 +61,8 @@ returns c =
     (ap₂ both (ap (λ (n : ℕ). eqb n (getD r 1 0)) (c .before .before .before .before .before .u64-at3 .ensures))
     (ap₂ both (c .before .before .says4 .ensures) (ap (λ (b : Bool). both b (eqb (getD r 3 0) (c .before .before .before .before .before .before .before .before .before .before .before .before .before .before .args .buckets))) (c .before .says5 .ensures)))))
 
-pub header-says-spec : {M : Type 1} → statement M
-header-says-spec =
+pub fields-match-spec : {M : Type 1} → statement M
+fields-match-spec =
     tie.close
     (tie.spec
     u64-at-requires

@@ -1,4 +1,4 @@
--- A key of one version, by the numbers that code reads of its record, each at its place.
+-- A key whose first version decides, by the numbers that code reads of its record, each at its place.
 -- Assumes nothing.
 use mathlib.Core.Path.{_≡_, refl, sym, ap, ap₂, _∙_, subst⁻¹}
 use mathlib.Core.List.{List, []}
@@ -17,7 +17,7 @@ use Rattle.spans.specs.declared.Spanned.the-variants.{Pairs}
 use Rattle.spans.specs.Span.{Pair, valueEnd, valueAt, valueFrom, valuesFrom, pairNumbers, pairsWritten, spannedRead}
 use Rattle.spans.proofs.Keys.{one-key, key-versions}
 use Rattle.spans.proofs.Values.{value-within, value-above, value-none, met-inside}
-use Rattle.wholepairs.specs.declared.KeyRead.the-variants.{Written}
+use Rattle.wholepairs.specs.declared.KeyWritten.the-variants.{Written}
 use Rattle.wholepairs.specs.Internal.{KeyPut}
 
 module _ (s : List ℕ) (o : Opened) (limit at : ℕ) {suffix : ℕ} (ex : suffix ≡ leAt s (o .arena + at + o .encoding .address + o .encoding .key) (o .encoding .key)) where
@@ -27,33 +27,33 @@ module _ (s : List ℕ) (o : Opened) (limit at : ℕ) {suffix : ℕ} (ex : suffi
   suffix-small b w = subst⁻¹ (λ (n : ℕ). n < 2 ^ 32) ex (key-header-narrow s (o .encoding) (o .arena + at) b w .suffix)
 
   module _ {header versions : ℕ} (eh : header ≡ keyHeaderLenOf (o .encoding))
-      (ev : versions ≡ leAt s (o .arena + at + o .encoding .address + o .encoding .key + o .encoding .key) (o .encoding .count)) (one : versions ≡ 1)
+      (ev : versions ≡ leAt s (o .arena + at + o .encoding .address + o .encoding .key + o .encoding .key) (o .encoding .count)) (some : 0 < versions)
       (room : o .arena + at + (header + suffix) + valueEnd (o .encoding) ≤ length s) where
-    -- where its version stands
+    -- where its first version stands
     abbrev from : ℕ
     from = o .arena + at + (header + suffix)
 
-    -- the key's answer is that of its version alone
-    version-alone : valuesFrom 1 s o limit at ≡ valueFrom 1 s o from limit
+    -- the key's answer is that of its versions
+    versions-answer : valuesFrom 1 s o limit at ≡ valueFrom versions s o from limit
     unfolding keyHeaderAt
-    version-alone =
+    versions-answer =
         let place : o .arena + at + o .encoding .address + o .encoding .key + o .encoding .key ≡ o .arena + at + o .encoding .address + 2 * o .encoding .key = omega arith in
-        let n : 1 ≡ keyHeaderAt s (o .encoding) (o .arena + at) .versions = sym one ∙ ev ∙ ap (λ (p : ℕ). leAt s p (o .encoding .count)) place in
+        let n : versions ≡ keyHeaderAt s (o .encoding) (o .arena + at) .versions = ev ∙ ap (λ (p : ℕ). leAt s p (o .encoding .count)) place in
         one-key s o limit at
         ∙ sym (ap₂ (λ (k m : ℕ). valueFrom k s o (o .arena + at + (header + m)) limit) n ex ∙ key-versions s o limit at refl eh (omega arith))
 
     module _ (sum : storedSeq s o from < 2 ^ 64) where
-      -- within the limit its value is the answer
-      pub one-within : storedSeq s o from ≤ limit → valuesFrom 1 s o limit at ≡ given (valueAt s o from)
+      -- within the limit that version's value is the answer
+      pub first-within : storedSeq s o from ≤ limit → valuesFrom 1 s o limit at ≡ given (valueAt s o from)
       unfolding valueEnd
-      one-within w = version-alone ∙ value-within s o from limit 1 (omega arith) (omega arith) sum w ∙ met-inside s o from limit room
+      first-within w = versions-answer ∙ value-within s o from limit versions some (omega arith) sum w ∙ met-inside s o from limit room
 
-      -- above it there is none
-      pub one-above : limit < storedSeq s o from → valuesFrom 1 s o limit at ≡ given []
+      -- above it there is none, if it is the only one
+      pub first-above : limit < storedSeq s o from → versions ≡ 1 → valuesFrom 1 s o limit at ≡ given []
       unfolding valueEnd
-      one-above w =
-          version-alone ∙ value-above s o from limit 1 (omega arith) (omega arith) sum w
-          ∙ value-none s o (from + versionLenOf (o .encoding)) limit (1 - 1) (omega arith)
+      first-above w one =
+          versions-answer ∙ value-above s o from limit versions some (omega arith) sum w
+          ∙ value-none s o (from + versionLenOf (o .encoding)) limit (versions - 1) (omega arith)
 
 -- so many pairs, written at the front, are the answer
 pub put-told : (a : Answer (List Pair)) (ps : List Pair) (l : List ℕ) {n : ℕ} {m : List ℕ} → a ≡ given ps → n ≡ length ps → m ≡ sets l 0 (pairNumbers ps)

@@ -3,10 +3,10 @@ use Prim.Native.Nat.{ℕ, _+_, _*_}
 use lib.Dec.{eqb, leb}
 use Rattle.num.specs.Choice.{both}
 use Rattle.encoding.specs.Encoding.{scanMagic, stride}
-use Rattle.usual.specs.Usual.{scanSays}
+use Rattle.usual.specs.Internal.{scanMatches}
 use borrow.Author.Needs.{needs}
-use Rattle.usual.proofs.scan_says.Statement.{statement}
-use Rattle.usual.proofs.scan_says.Tie as tie
+use Rattle.usual.proofs.scan_matches.Statement.{statement}
+use Rattle.usual.proofs.scan_matches.Tie as tie
 
 add-u32-at : tie.Need-add-u32-at
 add-u32-at c = search needs
@@ -45,7 +45,7 @@ u32-at-requires-2 : tie.Need-u32-at-requires-2
 u32-at-requires-2 c κs = search needs
 
 returns : tie.Need-returns
-unfolding scanSays scanMagic both
+unfolding scanMatches scanMagic both
 returns c =
     let a = c .before .before .before .before .before .before .before .args in
     ap₂ both (ap (λ (n : ℕ). eqb n (24 + 4 * a .n)) (c .before .before .before .u64-at2 .ensures))
@@ -54,8 +54,8 @@ returns c =
     (ap₂ both (ap (λ (n : ℕ). eqb n stride) (c .u32-at2 .ensures))
     (ap (λ (n : ℕ). both (leb 1 n) (leb n (a .n))) (c .before .before .before .before .u64-at .ensures)))))
 
-pub scan-says-spec : {M : Type 1} → statement M
-scan-says-spec =
+pub scan-matches-spec : {M : Type 1} → statement M
+scan-matches-spec =
     tie.close
     (tie.spec
     add-u32-at
