@@ -156,7 +156,7 @@ uint64_t kiban_open_packed(const uint8_t *section, size_t section_len, const uin
 /* Looks a key up in a section, or in a packed form, by the record that its opening wrote: the version of greatest sequence not above the
  * limit, which may be a tombstone. On 0 the answer is written, six zeros for none. Where the record has checksums, kiban_crc32 of the value is
  * the answer's checksum. A packed form is given as exactly the `*len` bytes that kiban_open_packed counted, not
- * as the whole output. Stack: 184 bytes. */
+ * as the whole output. Stack: 152 bytes. */
 uint64_t kiban_lookup(const uint8_t *section, size_t section_len, const uint64_t record[KIBAN_RECORD],
                       const uint8_t *key, size_t key_len, uint64_t limit, uint64_t answer[KIBAN_ANSWER]);
 
@@ -166,7 +166,8 @@ uint64_t kiban_value(const uint8_t *data, size_t data_len, uint64_t offset, uint
 /* The values of `count` neighbouring keys from key `first` on (counted from 0, in key order) under a limit: of each key's version of greatest
  * sequence not above the limit, unless that is a tombstone. On 0 the pairs (offset, length) stand in key order in the first 2 * `*found`
  * places, and the places behind them are kept. For sections with a scan part and 4-byte addresses,
- * opened plain (27). No entry tells the place of a key among the keys. Stack: 480 bytes. */
+ * opened plain (27). No entry tells the place of a key among the keys. Stack: 104 bytes for one
+ * key, 505 for more, and below 1,024 where the section has not the usual widths. */
 uint64_t kiban_span(const uint8_t *section, size_t section_len, const uint64_t record[KIBAN_RECORD],
                     uint64_t first, uint64_t count, uint64_t limit, uint64_t *pairs, size_t pairs_len, uint64_t *found);
 
