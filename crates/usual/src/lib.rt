@@ -63,6 +63,29 @@ fn scan_matches(section: &[u8], n: u64, scan: usize) -> bool
                     & ((1 <= prefixes) & (prefixes <= n)))))
 }
 
+// Reads the scan address of a key where the numbers put it, before 24 is asked: its load then takes place beside those tests. Is the key's header
+// inside the section there? The answer decides by which way a span goes on, and never what it answers, so nothing is promised of it.
+pub fn reads_ahead(section: &[u8], numbers: &[u64; 16], key: u64) -> bool {
+    let n = numbers[2];
+    if n <= key {
+        return false;
+    }
+    if 0x8000_0000 <= n {
+        return false;
+    }
+    let all = section.len() as u64;
+    let behind = 37 + 4 * n;
+    if all < behind {
+        return false;
+    }
+    let arena = numbers[4];
+    if all < arena {
+        return false;
+    }
+    let address = num::u32_at(section, (all - behind + 24 + 4 * key) as usize) as u64;
+    arena + address + 14 <= all
+}
+
 // Are these numbers a record that the section gives, plain and with a scan part? A record of other widths is answered with no.
 pub fn scan_record(section: &[u8], numbers: &[u64; 16]) -> bool
     ensures { λ r. ⌜ (r ≡ true → ScanRecord (now (section .entry)) (now (numbers .entry))) ⌝ }
