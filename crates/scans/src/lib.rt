@@ -184,11 +184,7 @@ pub fn span(
         × (now (pairs .exit) ≡ pairsWritten (spanOfNumbers (now (section .entry)) (now (numbers .entry)) first count limit (length (now (pairs .entry)))) (now (pairs .entry)))
         × (now (found .exit) ≡ foundWritten (spanOfNumbers (now (section .entry)) (now (numbers .entry)) first count limit (length (now (pairs .entry)))) (now (found .entry))) ⌝ }
 {
-    if !usual::reads_ahead(section, numbers, first) {
-        let spanned = general_span(section, numbers, first, count, limit, pairs);
-        return answered(spanned, found);
-    }
-    if !usual::scan_record(section, numbers) {
+    if !usual::scan_record(section, numbers, first) {
         let spanned = general_span(section, numbers, first, count, limit, pairs);
         return answered(spanned, found);
     }
@@ -199,7 +195,7 @@ pub fn span(
     let read = one_key(section, numbers, first, limit, pairs);
     match read {
         KeyWritten::Written(n) => answered(Spanned::Pairs(n), found),
-        // The general path stays out of line, which keeps this function short, as long as it has more than one caller.
+        // The general path has two callers and so stays out of line, which keeps this function short.
         KeyWritten::Left => {
             let spanned = general_span(section, numbers, first, 1, limit, pairs);
             answered(spanned, found)

@@ -63,9 +63,8 @@ fn scan_matches(section: &[u8], n: u64, scan: usize) -> bool
                     & ((1 <= prefixes) & (prefixes <= n)))))
 }
 
-// Reads the scan address of a key where the numbers put it, before 24 is asked: its load then takes place beside those tests. Is the key's header
-// inside the section there? The answer decides by which way a span goes on, and never what it answers, so nothing is promised of it.
-pub fn reads_ahead(section: &[u8], numbers: &[u64; 16], key: u64) -> bool {
+// Does a key's header lie inside the section, at the address that the scan part has where the numbers put it?
+fn header_inside(section: &[u8], numbers: &[u64; 16], key: u64) -> bool {
     let n = numbers[2];
     if n <= key {
         return false;
@@ -86,10 +85,15 @@ pub fn reads_ahead(section: &[u8], numbers: &[u64; 16], key: u64) -> bool {
     arena + address + 14 <= all
 }
 
-// Are these numbers a record that the section gives, plain and with a scan part? A record of other widths is answered with no.
-pub fn scan_record(section: &[u8], numbers: &[u64; 16]) -> bool
+// Are these numbers a record that the section gives, plain and with a scan part? A no says nothing: it is also the answer to other widths, and to
+// a first key whose header is not inside the section. The key is asked for first, although the span asks again where it reads, because the load of
+// its address, the first that may have to wait for memory, then goes on beside the tests of 24.
+pub fn scan_record(section: &[u8], numbers: &[u64; 16], first: u64) -> bool
     ensures { λ r. ⌜ (r ≡ true → ScanRecord (now (section .entry)) (now (numbers .entry))) ⌝ }
 {
+    if !header_inside(section, numbers, first) {
+        return false;
+    }
     if !header::begins(section) {
         return false;
     }

@@ -13,8 +13,8 @@ use borrow.Author.Needs.{needs}
 use Rattle.scans.proofs.span.Statement.{statement}
 use Rattle.scans.proofs.span.Tie as tie
 
-reads-ahead-requires : tie.Need-reads-ahead-requires
-reads-ahead-requires c κs = search needs
+scan-record-requires : tie.Need-scan-record-requires
+scan-record-requires c κs = search needs
 
 general-span-requires : tie.Need-general-span-requires
 general-span-requires c κs = search needs
@@ -32,11 +32,10 @@ returns c =
     let said = outcome _ (general .0) (a .found .now) (c .answered .ensures) in
     (said .0, general .1, said .1)
 
-scan-record-requires : tie.Need-scan-record-requires
-scan-record-requires c κs = search needs
-
-general-span-requires-2 : tie.Need-general-span-requires-2
-general-span-requires-2 c κs = search needs
+record-span-requires : tie.Need-record-span-requires
+record-span-requires c κs =
+    let r = c .before .before .before .scan-record .ensures (not-false _ (c .before .before .if1 .left)) in
+    (r .held, r .scans)
 
 answered-requires-2 : tie.Need-answered-requires-2
 answered-requires-2 c κs = search needs
@@ -46,100 +45,77 @@ same-length-2 c = search needs
 
 returns-2 : tie.Need-returns-2
 returns-2 c =
-    let a = c .before .before .before .before .before .before .before .before .before .before .before .before .args in
-    let general = c .before .before .before .before .general-span2 .ensures in
-    let said = outcome _ (general .0) (a .found .now) (c .answered2 .ensures) in
-    (said .0, general .1, said .1)
+    let a = c .before .before .before .before .before .before .before .before .before .before .before .args in
+    let r = c .before .before .before .before .before .before .before .before .scan-record .ensures (not-false _ (c .before .before .before .before .before .before .before .if1 .left)) in
+    let over = spanned-over (a .section .now) (a .numbers .now) (a .first) (a .count) (a .limit) (length (a .pairs .now)) (r .numbers) refl in
+    let told = told-of over (a .pairs .now) (c .before .before .before .before .record-span .ensures) in
+    let said = outcome _ (told .0) (a .found .now) (c .answered2 .ensures) in
+    (said .0, told .1, said .1)
 
-record-span-requires : tie.Need-record-span-requires
-record-span-requires c κs =
-    let r = c .before .before .before .scan-record .ensures (not-false _ (c .before .before .if2 .left)) in
-    (r .held, r .scans)
+one-key-requires : tie.Need-one-key-requires
+one-key-requires c κs = c .before .before .before .scan-record .ensures (not-false _ (c .before .before .if1 .left))
+
+enum-known-read : tie.Need-enum-known-read
+enum-known-read c = search needs
 
 answered-requires-3 : tie.Need-answered-requires-3
 answered-requires-3 c κs = search needs
+
+enum-told : tie.Need-enum-told
+enum-told c = search needs
+
+general-span-requires-2 : tie.Need-general-span-requires-2
+general-span-requires-2 c κs = search needs
+
+answered-requires-4 : tie.Need-answered-requires-4
+answered-requires-4 c κs = search needs
 
 same-length-3 : tie.Need-same-length-3
 same-length-3 c = search needs
 
 returns-3 : tie.Need-returns-3
 returns-3 c =
-    let a = c .before .before .before .before .before .before .before .before .before .before .before .before .before .args in
-    let r = c .before .before .before .before .before .before .before .before .scan-record .ensures (not-false _ (c .before .before .before .before .before .before .before .if2 .left)) in
-    let over = spanned-over (a .section .now) (a .numbers .now) (a .first) (a .count) (a .limit) (length (a .pairs .now)) (r .numbers) refl in
-    let told = told-of over (a .pairs .now) (c .before .before .before .before .record-span .ensures) in
+    let a = c .before .before .before .before .before .before .before .before .before .before .before .before .before .before .args in
+    let one : a .count ≡ 1 = c .before .before .before .before .before .before .before .before .before .if2 .left in
+    let e = ap (λ (n : ℕ). spanOfNumbers (a .section .now) (a .numbers .now) (a .first) n (a .limit) (length (a .pairs .now))) (sym one) in
+    let told = written-told _ (a .pairs .now) _ (c .before .before .before .before .before .before .before .one-key .ensures) (c .before .before .before .read .given .1) _ e in
     let said = outcome _ (told .0) (a .found .now) (c .answered3 .ensures) in
     (said .0, told .1, said .1)
-
-one-key-requires : tie.Need-one-key-requires
-one-key-requires c κs = c .before .before .before .scan-record .ensures (not-false _ (c .before .before .if2 .left))
-
-enum-known-read : tie.Need-enum-known-read
-enum-known-read c = search needs
-
-answered-requires-4 : tie.Need-answered-requires-4
-answered-requires-4 c κs = search needs
-
-enum-told : tie.Need-enum-told
-enum-told c = search needs
-
-general-span-requires-3 : tie.Need-general-span-requires-3
-general-span-requires-3 c κs = search needs
-
-answered-requires-5 : tie.Need-answered-requires-5
-answered-requires-5 c κs = search needs
 
 same-length-4 : tie.Need-same-length-4
 same-length-4 c = search needs
 
 returns-4 : tie.Need-returns-4
 returns-4 c =
-    let a = c .before .before .before .before .before .before .before .before .before .before .before .before .before .before .before .before .args in
-    let one : a .count ≡ 1 = c .before .before .before .before .before .before .before .before .before .if3 .left in
-    let e = ap (λ (n : ℕ). spanOfNumbers (a .section .now) (a .numbers .now) (a .first) n (a .limit) (length (a .pairs .now))) (sym one) in
-    let told = written-told _ (a .pairs .now) _ (c .before .before .before .before .before .before .before .one-key .ensures) (c .before .before .before .read .given .1) _ e in
-    let said = outcome _ (told .0) (a .found .now) (c .answered4 .ensures) in
-    (said .0, told .1, said .1)
-
-same-length-5 : tie.Need-same-length-5
-same-length-5 c = search needs
-
-returns-5 : tie.Need-returns-5
-returns-5 c =
-    let a = c .before .before .before .before .before .before .before .before .before .before .before .before .before .before .before .before .before .before .before .args in
-    let one : a .count ≡ 1 = c .before .before .before .before .before .before .before .before .before .before .before .before .if3 .left in
+    let a = c .before .before .before .before .before .before .before .before .before .before .before .before .before .before .before .before .before .args in
+    let one : a .count ≡ 1 = c .before .before .before .before .before .before .before .before .before .before .before .before .if2 .left in
     let kept = left-kept _ (a .pairs .now) _ (c .before .before .before .before .before .before .before .before .before .before .one-key .ensures) (c .before .before .before .before .before .before .enum-told .given .1) in
-    let general = c .before .before .before .before .general-span3 .ensures in
+    let general = c .before .before .before .before .general-span2 .ensures in
     let x : ℕ → List ℕ → Answer (List Pair) = λ n l. spanOfNumbers (a .section .now) (a .numbers .now) (a .first) n (a .limit) (length l) in
     let e = ap (x 1) kept ∙ ap (λ (n : ℕ). x n (a .pairs .now)) (sym one) in
-    let said = outcome _ (general .0 ∙ ap spannedRead e) (a .found .now) (c .answered5 .ensures) in
+    let said = outcome _ (general .0 ∙ ap spannedRead e) (a .found .now) (c .answered4 .ensures) in
     (said .0, general .1 ∙ ap₂ pairsWritten e kept, said .1)
 
 pub span-spec : {M : Type 1} → statement M
 span-spec =
     tie.close
     (tie.spec
-    reads-ahead-requires
+    scan-record-requires
     general-span-requires
     answered-requires
     same-length
     returns
-    scan-record-requires
-    general-span-requires-2
+    record-span-requires
     answered-requires-2
     same-length-2
     returns-2
-    record-span-requires
-    answered-requires-3
-    same-length-3
-    returns-3
     one-key-requires
     enum-known-read
-    answered-requires-4
+    answered-requires-3
     enum-told
-    general-span-requires-3
-    answered-requires-5
+    general-span-requires-2
+    answered-requires-4
+    same-length-3
+    returns-3
     same-length-4
-    returns-4
-    same-length-5
-    returns-5)
+    returns-4)
