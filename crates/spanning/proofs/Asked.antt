@@ -24,7 +24,7 @@ use Rattle.scans.proofs.Asked.{scanned}
 use Rattle.scans.specs.Spans.{spanOfNumbers, foundWritten}
 use Rattle.calls.specs.Calls.{place, Holding, GivesRecord}
 use Rattle.calls.proofs.Given.{passed, numbers-pass, bytes-pass}
-use Rattle.spanning.specs.Reads.{KeysGive}
+use Rattle.spanning.specs.Reads.{RecordsGive}
 use Rattle.spanning.specs.Calls.{spanned, SpanCall, pairAt, PairsLeft, NumbersScan, KeysInside, PlacesEnough, Passes, ReadFails, SpanAsked}
 use Rattle.spanning.proofs.Judged.{Judged, bad, good, span-judged, keys-few}
 
@@ -254,7 +254,7 @@ module _ (h : Holding) (first count limit places : ℕ) where
       ∙ if-true t29 read (refused 29) (places-asked .1 (p .room))
 
   given-pairs : number from24 ≡ 0
-      → (ps : List Pair) × KeysGive (h .bytes) o first limit 0 count ps × (spanOfNumbers (h .bytes) (h .numbers) first count limit places ≡ given ps)
+      → (ps : List Pair) × RecordsGive (h .bytes) o first limit 0 count ps × (spanOfNumbers (h .bytes) (h .numbers) first count limit places ≡ given ps)
   given-pairs z =
       let q = from-reads 0 (λ e. omega arith) (λ e. omega arith) (λ e. omega arith) (λ e. omega arith) .0 z in
       let r = judged-pairs (span-judged (h .bytes) o first limit count) (q .1) in

@@ -20,8 +20,8 @@ use Rattle.versions.specs.Version.{storedSeq, storedValue, kindIn, lengthIn, st
 use Rattle.agreement.specs.Keys.{keyHeaderSize, versionSize, keyHeaderIn, keyRecordLen, topBit}
 use Rattle.agreement.proofs.Same.{version-size-is}
 use Rattle.locator.specs.Locator.{readable}
-use Rattle.spans.specs.Span.{Pair, scanAddress, valueEnd, unlessTombstone, valueAt, valueFrom, versionsStart, keyValue, nextAddress, pairsJoined, valuesFrom}
-use Rattle.spanning.specs.Reads.{headerAt, placeAt, seqAt, markedAt, offsetAt, readEnd, Reached, Unread, header, sequence, sum, value, KeyGives, put, tombstone, none, addressRead, SomeUnread, KeysGive, noKey, nextKey, KeysGiveOne}
+use Rattle.spans.specs.Span.{Pair, scanAddress, valueEnd, unlessTombstone, valueAt, firstWithin, versionsStart, keyValue, nextAddress, pairsJoined, valuesFrom}
+use Rattle.spanning.specs.Reads.{headerAt, placeAt, seqAt, markedAt, valueOffsetAt, readEnd, Reached, Unread, header, sequence, sum, valueFields, RecordGives, putRead, tombstoneRead, noneRead, addressRead, SomeUnread, RecordsGive, noRecord, nextRecord, RecordsGiveOne}
 
 -- an answer is 25 and a read fails, or none does and the pairs are given
 pub data Judged (ReadFails : Type 0) (Gives : List Pair → Type 0) (r : Answer (List Pair)) : Type 0 where
@@ -72,7 +72,7 @@ module _ (s : List ℕ) (o : Opened) (limit address : ℕ) where
     passed-all j n p (header l) = omega arith
     passed-all j n p (sequence i r l) = let v = r .version in let a = p .inside i (omega arith) in omega arith
     passed-all j n p (sum i r l) = let v = r .version in let a = p .below i (omega arith) in omega arith
-    passed-all j n p (value i r w l) = let v = r .version in let a = p .above i (omega arith) in omega arith
+    passed-all j n p (valueFields i r w l) = let v = r .version in let a = p .above i (omega arith) in omega arith
 
     -- nor where the first version within the limit is read
     met-whole : (j : ℕ) → Passed j → at j + o .encoding .seq ≤ length s → seq j < 2 ^ 64 → seq j ≤ limit → readEnd s o address j ≤ length s
@@ -95,59 +95,59 @@ module _ (s : List ℕ) (o : Opened) (limit address : ℕ) where
         go (sum i r l) =
             latest (λ k. 2 ^ 64 ≤ seq k → ⊥) j i (let m = met i r in omega arith) (λ h m. let a = p .below i h in omega arith)
             (λ m. omega arith) l
-        go (value i r v l) =
+        go (valueFields i r v l) =
             latest (λ k. seq k ≤ limit → length s < readEnd s o address k → ⊥) j i
             (let m = met i r in omega arith) (λ h n m. let a = p .above i h in omega arith) (λ n m. omega arith) v l
 
   -- the pairs of the version that is met
-  met-read : (j : ℕ) → Reached s o limit address j → seq j ≤ limit → KeyGives s o limit address (valueAt s o (at j))
-  unfolding valueAt unlessTombstone kindIn lengthIn storedValue storedOffset if_then_else_ tombstoneOf topBit markedAt offsetAt
+  met-read : (j : ℕ) → Reached s o limit address j → seq j ≤ limit → RecordGives s o limit address (valueAt s o (at j))
+  unfolding valueAt unlessTombstone kindIn lengthIn storedValue storedOffset if_then_else_ tombstoneOf topBit markedAt valueOffsetAt
   met-read j r w = go (leb (tombstoneOf (o .encoding)) (storedValue s o (at j))) refl
     where
       pair : Pair
       pair = record { offset = storedOffset s o (at j); len = lengthIn o (storedValue s o (at j)) }
 
-      short : storedValue s o (at j) < tombstoneOf (o .encoding) → pair ≡ record { offset = offsetAt s o address j; len = markedAt s o address j }
-      short l = ap (λ (n : ℕ). record { offset = offsetAt s o address j; len = n }) (mod-eq-of-lt l)
+      short : storedValue s o (at j) < tombstoneOf (o .encoding) → pair ≡ record { offset = valueOffsetAt s o address j; len = markedAt s o address j }
+      short l = ap (λ (n : ℕ). record { offset = valueOffsetAt s o address j; len = n }) (mod-eq-of-lt l)
 
       go : (b : Bool) → leb (tombstoneOf (o .encoding)) (storedValue s o (at j)) ≡ b
-          → KeyGives s o limit address (unlessTombstone (if b then Tombstone else Put) pair)
-      go true e = tombstone j r w (leb-true _ _ e)
+          → RecordGives s o limit address (unlessTombstone (if b then Tombstone else Put) pair)
+      go true e = tombstoneRead j r w (leb-true _ _ e)
       go false e =
           let l = leb-false (tombstoneOf (o .encoding)) (storedValue s o (at j)) e in
-          subst (λ (p : Pair). KeyGives s o limit address (p ∷ [])) (sym (short l)) (put j r w l)
+          subst (λ (p : Pair). RecordGives s o limit address (p ∷ [])) (sym (short l)) (putRead j r w l)
 
   abbrev KeyJudged : Answer (List Pair) → Type 0
-  KeyJudged = Judged (Unread s o limit address) (KeyGives s o limit address)
+  KeyJudged = Judged (Unread s o limit address) (RecordGives s o limit address)
 
   module _ (inside : o .arena + address + keyHeaderSize (o .encoding) ≤ length s) where
     -- the versions from j on
-    versions-judged : (n j : ℕ) → j + n ≡ headerAt s o address .versions → Passed j → KeyJudged (valueFrom n s o (at j) limit)
-    unfolding valueFrom readable storedSeq seqAt readEnd both valueEnd if_then_else_
+    versions-judged : (n j : ℕ) → j + n ≡ headerAt s o address .versions → Passed j → KeyJudged (firstWithin n s o (at j) limit)
+    unfolding firstWithin readable storedSeq seqAt readEnd both valueEnd if_then_else_
     versions-judged zero j e p =
-        good [] (passed-all inside j (omega arith) p) (none (λ i h. p .above i (omega arith))) refl
+        good [] (passed-all inside j (omega arith) p) (noneRead (λ i h. p .above i (omega arith))) refl
     versions-judged (suc n) j e p =
         go (leb (at j + o .encoding .seq) (length s)) refl (ltb (seq j) (2 ^ 64)) refl (leb (seq j) limit) refl
         (leb (at j + valueEnd (o .encoding)) (length s)) refl
-        (λ q. subst (λ (a : ℕ). KeyJudged (valueFrom n s o a limit)) (sym (next-version j)) (versions-judged n (suc j) (omega arith) q))
+        (λ q. subst (λ (a : ℕ). KeyJudged (firstWithin n s o a limit)) (sym (next-version j)) (versions-judged n (suc j) (omega arith) q))
       where
         r : Reached s o limit address j
         r = record { version = omega arith; above = p .above }
 
         go : (read : Bool) → leb (at j + o .encoding .seq) (length s) ≡ read → (sums : Bool) → ltb (seq j) (2 ^ 64) ≡ sums
             → (low : Bool) → leb (seq j) limit ≡ low → (whole : Bool) → leb (at j + valueEnd (o .encoding)) (length s) ≡ whole
-            → (Passed (suc j) → KeyJudged (valueFrom n s o (at j + versionLenOf (o .encoding)) limit))
+            → (Passed (suc j) → KeyJudged (firstWithin n s o (at j + versionLenOf (o .encoding)) limit))
             → KeyJudged (elim (both read sums) [
               | false ↦ refused 25
               | true ↦ elim low [
                 | true ↦ if whole then given (valueAt s o (at j)) else refused 25
-                | false ↦ valueFrom n s o (at j + versionLenOf (o .encoding)) limit
+                | false ↦ firstWithin n s o (at j + versionLenOf (o .encoding)) limit
               ]
             ])
         go false a sums b low c whole d rest = bad (sequence j r (leb-false _ _ a)) refl
         go true a false b low c whole d rest = bad (sum j r (ltb-false _ _ b)) refl
         go true a true b false c whole d rest = rest (one-passed j p (leb-true _ _ a) (ltb-true _ _ b) (leb-false _ _ c))
-        go true a true b true c false d rest = let l = leb-false (at j + valueEnd (o .encoding)) (length s) d in bad (value j r (leb-true _ _ c) (omega arith)) refl
+        go true a true b true c false d rest = let l = leb-false (at j + valueEnd (o .encoding)) (length s) d in bad (valueFields j r (leb-true _ _ c) (omega arith)) refl
         go true a true b true c true d rest =
             let l = leb-true (at j + valueEnd (o .encoding)) (length s) d in
             good (valueAt s o (at j)) (met-whole inside j p (leb-true _ _ a) (ltb-true _ _ b) (leb-true _ _ c) (omega arith))
@@ -165,9 +165,9 @@ module _ (s : List ℕ) (o : Opened) (limit address : ℕ) where
       first = omega arith
 
       go : (b : Bool) → leb (o .arena + address + keyHeaderLenOf (o .encoding)) (length s) ≡ b
-          → KeyJudged (if b then valueFrom (headerAt s o address .versions) s o from limit else refused 25)
+          → KeyJudged (if b then firstWithin (headerAt s o address .versions) s o from limit else refused 25)
       go true e =
-          subst (λ (a : ℕ). KeyJudged (valueFrom (headerAt s o address .versions) s o a limit)) (sym first)
+          subst (λ (a : ℕ). KeyJudged (firstWithin (headerAt s o address .versions) s o a limit)) (sym first)
           (versions-judged (leb-true _ _ e) (headerAt s o address .versions) 0 (omega arith) none-passed)
       go false e = bad (header (leb-false _ _ e)) refl
 
@@ -189,47 +189,47 @@ module _ (s : List ℕ) (o : Opened) (first limit : ℕ) where
 
   -- a key record before the others
   joined : (i count : ℕ) (a b : Answer (List Pair)) → KeyJudged s o limit (addressRead s o first i) a
-      → Judged (SomeFrom (suc i) count) (KeysGive s o first limit (suc i) count) b
-      → Judged (SomeFrom i (suc count)) (KeysGive s o first limit i (suc count)) (pairsJoined a b)
+      → Judged (SomeFrom (suc i) count) (RecordsGive s o first limit (suc i) count) b
+      → Judged (SomeFrom i (suc count)) (RecordsGive s o first limit i (suc count)) (pairsJoined a b)
   unfolding pairsJoined SomeFrom
   joined i count a b (bad u e) q = bad (i, omega arith, omega arith, u) (ap (λ (x : Answer (List Pair)). pairsJoined x b) e)
   joined i count a b (good ps n g e) (bad (k, l, m, u) f) = bad (k, omega arith, omega arith, u) (ap₂ pairsJoined e f)
-  joined i count a b (good ps n g e) (good qs m h f) = good (ps ++ qs) none-fails (nextKey g h) (ap₂ pairsJoined e f)
+  joined i count a b (good ps n g e) (good qs m h f) = good (ps ++ qs) none-fails (nextRecord g h) (ap₂ pairsJoined e f)
     where
       none-fails : (k : ℕ) × (i ≤ k) × (k < i + suc count) × Unread s o limit (addressRead s o first k) → ⊥
       none-fails (k, l, below, u) =
           first-or-later (λ (j : ℕ). Unread s o limit (addressRead s o first j) → ⊥) i k l n (λ later v. m (k, later, omega arith, v)) u
 
   -- so many from one on
-  keys-judged : (count i : ℕ) → Judged (SomeFrom i count) (KeysGive s o first limit i count) (valuesFrom count s o limit (addressRead s o first i))
+  keys-judged : (count i : ℕ) → Judged (SomeFrom i count) (RecordsGive s o first limit i count) (valuesFrom count s o limit (addressRead s o first i))
   unfolding valuesFrom SomeFrom
-  keys-judged zero i = good [] (λ (k, l, m, u). omega arith) noKey refl
+  keys-judged zero i = good [] (λ (k, l, m, u). omega arith) noRecord refl
   keys-judged (suc count) i =
       joined i count _ _ (key-judged s o limit (addressRead s o first i))
-      (subst (λ (a : ℕ). Judged (SomeFrom (suc i) count) (KeysGive s o first limit (suc i) count) (valuesFrom count s o limit a)) (sym (next-address i))
+      (subst (λ (a : ℕ). Judged (SomeFrom (suc i) count) (RecordsGive s o first limit (suc i) count) (valuesFrom count s o limit a)) (sym (next-address i))
       (keys-judged count (suc i)))
 
   -- the walk of a span
   pub span-judged : (count : ℕ)
-      → Judged (SomeUnread s o first count limit) (KeysGive s o first limit 0 count) (valuesFrom count s o limit (scanAddress s o first))
+      → Judged (SomeUnread s o first count limit) (RecordsGive s o first limit 0 count) (valuesFrom count s o limit (scanAddress s o first))
   unfolding scanAddress addressRead SomeFrom
   span-judged count = go (keys-judged count 0)
     where
-      go : Judged (SomeFrom 0 count) (KeysGive s o first limit 0 count) (valuesFrom count s o limit (scanAddress s o first))
-          → Judged (SomeUnread s o first count limit) (KeysGive s o first limit 0 count) (valuesFrom count s o limit (scanAddress s o first))
+      go : Judged (SomeFrom 0 count) (RecordsGive s o first limit 0 count) (valuesFrom count s o limit (scanAddress s o first))
+          → Judged (SomeUnread s o first count limit) (RecordsGive s o first limit 0 count) (valuesFrom count s o limit (scanAddress s o first))
       go (bad (k, l, m, u) e) = bad (record { index = k; below = omega arith; unread = u }) e
       go (good ps n g e) =
           good ps (λ f. let b = f .below in n (f .index, omega arith, omega arith, f .unread)) g e
 
 -- a key record gives one pair at most
-key-few : {s : List ℕ} {o : Opened} {limit address : ℕ} {ps : List Pair} → KeyGives s o limit address ps → length ps ≤ 1
-key-few (put j r w l) = omega arith
-key-few (tombstone j r w l) = omega arith
-key-few (none n) = omega arith
+key-few : {s : List ℕ} {o : Opened} {limit address : ℕ} {ps : List Pair} → RecordGives s o limit address ps → length ps ≤ 1
+key-few (putRead j r w l) = omega arith
+key-few (tombstoneRead j r w l) = omega arith
+key-few (noneRead n) = omega arith
 
-pub keys-few : {s : List ℕ} {o : Opened} {first limit i count : ℕ} {ps : List Pair} → KeysGive s o first limit i count ps → length ps ≤ count
-keys-few noKey = omega arith
-keys-few (nextKey {ps = one} {qs = rest} k r) = let a = key-few k in let b = keys-few r in omega (arith, length-append one rest)
+pub keys-few : {s : List ℕ} {o : Opened} {first limit i count : ℕ} {ps : List Pair} → RecordsGive s o first limit i count ps → length ps ≤ count
+keys-few noRecord = omega arith
+keys-few (nextRecord {ps = one} {qs = rest} k r) = let a = key-few k in let b = keys-few r in omega (arith, length-append one rest)
 
 -- ---- the pairs are one list
 
@@ -241,22 +241,22 @@ module _ (s : List ℕ) (o : Opened) (limit address : ℕ) where
       let n : j < i → ⊥ = λ l. let z = p .above j l in omega arith in
       omega (arith, m, n)
 
-  key-one : (ps qs : List Pair) → KeyGives s o limit address ps → KeyGives s o limit address qs → ps ≡ qs
-  key-one ps qs (put i p a m) (put j q b n) =
-      ap (λ (k : ℕ). record { offset = offsetAt s o address k; len = markedAt s o address k } ∷ []) (met-one i j p q a b)
-  key-one ps qs (put i p a m) (tombstone j q b n) =
+  key-one : (ps qs : List Pair) → RecordGives s o limit address ps → RecordGives s o limit address qs → ps ≡ qs
+  key-one ps qs (putRead i p a m) (putRead j q b n) =
+      ap (λ (k : ℕ). record { offset = valueOffsetAt s o address k; len = markedAt s o address k } ∷ []) (met-one i j p q a b)
+  key-one ps qs (putRead i p a m) (tombstoneRead j q b n) =
       let e = ap (markedAt s o address) (met-one i j p q a b) in absurd (omega arith)
-  key-one ps qs (put i p a m) (none n) = let z = n i (p .version) in absurd (omega arith)
-  key-one ps qs (tombstone i p a m) (put j q b n) =
+  key-one ps qs (putRead i p a m) (noneRead n) = let z = n i (p .version) in absurd (omega arith)
+  key-one ps qs (tombstoneRead i p a m) (putRead j q b n) =
       let e = ap (markedAt s o address) (met-one i j p q a b) in absurd (omega arith)
-  key-one ps qs (tombstone i p a m) (tombstone j q b n) = refl
-  key-one ps qs (tombstone i p a m) (none n) = refl
-  key-one ps qs (none m) (put j q b n) = let z = m j (q .version) in absurd (omega arith)
-  key-one ps qs (none m) (tombstone j q b n) = refl
-  key-one ps qs (none m) (none n) = refl
+  key-one ps qs (tombstoneRead i p a m) (tombstoneRead j q b n) = refl
+  key-one ps qs (tombstoneRead i p a m) (noneRead n) = refl
+  key-one ps qs (noneRead m) (putRead j q b n) = let z = m j (q .version) in absurd (omega arith)
+  key-one ps qs (noneRead m) (tombstoneRead j q b n) = refl
+  key-one ps qs (noneRead m) (noneRead n) = refl
 
-pub keys-give-one : KeysGiveOne
-unfolding KeysGiveOne
-keys-give-one s o first limit i count ps qs noKey noKey = refl
-keys-give-one s o first limit i count ps qs (nextKey k r) (nextKey l q) =
-    ap₂ (λ (a b : List Pair). a ++ b) (key-one s o limit (addressRead s o first i) _ _ k l) (keys-give-one s o first limit (suc i) _ _ _ r q)
+pub records-give-one : RecordsGiveOne
+unfolding RecordsGiveOne
+records-give-one s o first limit i count ps qs noRecord noRecord = refl
+records-give-one s o first limit i count ps qs (nextRecord k r) (nextRecord l q) =
+    ap₂ (λ (a b : List Pair). a ++ b) (key-one s o limit (addressRead s o first i) _ _ k l) (records-give-one s o first limit (suc i) _ _ _ r q)

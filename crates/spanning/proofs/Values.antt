@@ -27,7 +27,7 @@ use Rattle.locator.proofs.Versions as located
 use Rattle.lookup.specs.Lookup.{locateOf}
 use Rattle.locating.proofs.Indexed.{Indexed}
 use Rattle.locating.proofs.Reading.{located-own}
-use Rattle.spans.specs.Span.{Pair, valueEnd, unlessTombstone, valueAt, valueFrom, versionsStart, keyValue}
+use Rattle.spans.specs.Span.{Pair, valueEnd, unlessTombstone, valueAt, firstWithin, versionsStart, keyValue}
 use Rattle.spans.proofs.Values.{value-within, value-above}
 use Rattle.spanning.specs.Spans.{pairOf, locatedPairs}
 
@@ -43,7 +43,7 @@ value-located s o pos = kind-pairs _ _
 
 module _ (s : List ℕ) (o : Opened) (pos limit : ℕ) (r : pos + versionLenOf (o .encoding) ≤ length s) (b : storedSeq s o pos < 2 ^ 64) where
   -- a version within the limit is met by a span as by a lookup
-  both-met : (n : ℕ) → storedSeq s o pos ≤ limit → valueFrom (suc n) s o pos limit ≡ given (locatedPairs (versionsFrom (suc n) s o pos limit))
+  both-met : (n : ℕ) → storedSeq s o pos ≤ limit → firstWithin (suc n) s o pos limit ≡ given (locatedPairs (versionsFrom (suc n) s o pos limit))
   unfolding readable valueEnd versionLenOf
   both-met n w =
       let l : pos + o .encoding .seq ≤ length s = omega arith in
@@ -55,15 +55,15 @@ module _ (s : List ℕ) (o : Opened) (pos limit : ℕ) (r : pos + versionLenOf (
 
   -- and one above it is passed by both
   both-passed : (n : ℕ) → limit < storedSeq s o pos
-      → valueFrom n s o (pos + versionLenOf (o .encoding)) limit ≡ given (locatedPairs (versionsFrom n s o (pos + versionLenOf (o .encoding)) limit))
-      → valueFrom (suc n) s o pos limit ≡ given (locatedPairs (versionsFrom (suc n) s o pos limit))
+      → firstWithin n s o (pos + versionLenOf (o .encoding)) limit ≡ given (locatedPairs (versionsFrom n s o (pos + versionLenOf (o .encoding)) limit))
+      → firstWithin (suc n) s o pos limit ≡ given (locatedPairs (versionsFrom (suc n) s o pos limit))
   unfolding versionLenOf
   both-passed n w e =
       let l : pos + o .encoding .seq ≤ length s = omega arith in
       let m : suc n - 1 ≡ n = omega arith in
       let next = pos + versionLenOf (o .encoding) in
       value-above s o pos limit (suc n) (omega arith) l b w
-      ∙ ap (λ (k : ℕ). valueFrom k s o next limit) m
+      ∙ ap (λ (k : ℕ). firstWithin k s o next limit) m
       ∙ e
       ∙ ap (λ (a : Located). given (locatedPairs a))
       (sym (located.version-above s o pos limit (suc n) (omega arith) l b w ∙ ap (λ (k : ℕ). versionsFrom k s o next limit) m))
@@ -82,8 +82,8 @@ first-place s o k = omega arith
 module _ (s : List ℕ) (o : Opened) («data» : List ℕ) (es : List Entry) (x : Indexed s o «data» es) (k : ℕ) (h : k < o .count) (limit : ℕ) where
   -- the walk over the versions of key k from one on
   versions-both : (count j : ℕ) → j + count ≡ versionCount s o k
-      → valueFrom count s o (versionPlace s o k j) limit ≡ given (locatedPairs (versionsFrom count s o (versionPlace s o k j) limit))
-  unfolding valueFrom versionsFrom locatedPairs versionSeq storedSeq versionLenOf versionSize
+      → firstWithin count s o (versionPlace s o k j) limit ≡ given (locatedPairs (versionsFrom count s o (versionPlace s o k j) limit))
+  unfolding firstWithin versionsFrom locatedPairs versionSeq storedSeq versionLenOf versionSize
   versions-both zero j e = refl
   versions-both (suc count) j e = go (leb (versionSeq s o k j) limit) refl (versions-both count (suc j) (omega arith))
     where
@@ -94,12 +94,12 @@ module _ (s : List ℕ) (o : Opened) («data» : List ℕ) (es : List Entry) (x 
       below = x .versions k j h (omega arith) .sum
 
       go : (b : Bool) → leb (versionSeq s o k j) limit ≡ b
-          → valueFrom count s o (versionPlace s o k (suc j)) limit ≡ given (locatedPairs (versionsFrom count s o (versionPlace s o k (suc j)) limit))
-          → valueFrom (suc count) s o (versionPlace s o k j) limit ≡ given (locatedPairs (versionsFrom (suc count) s o (versionPlace s o k j) limit))
+          → firstWithin count s o (versionPlace s o k (suc j)) limit ≡ given (locatedPairs (versionsFrom count s o (versionPlace s o k (suc j)) limit))
+          → firstWithin (suc count) s o (versionPlace s o k j) limit ≡ given (locatedPairs (versionsFrom (suc count) s o (versionPlace s o k j) limit))
       go true p rest = both-met s o (versionPlace s o k j) limit inside below count (leb-true _ _ p)
       go false p rest =
           both-passed s o (versionPlace s o k j) limit inside below count (leb-false _ _ p)
-          (ap (λ (a : ℕ). valueFrom count s o a limit) (next-place s o k j)
+          (ap (λ (a : ℕ). firstWithin count s o a limit) (next-place s o k j)
           ∙ rest
           ∙ ap (λ (a : ℕ). given (locatedPairs (versionsFrom count s o a limit))) (sym (next-place s o k j)))
 
@@ -109,6 +109,6 @@ module _ (s : List ℕ) (o : Opened) («data» : List ℕ) (es : List Entry) (x 
   unfolding keyValue readable keyHeaderLenOf keyHeaderSize keyHeaderAt keyHeaderIn keyHeaderOf versionCount
   key-found =
       if-true _ _ _ (le-leb (o .arena + addressOf s o k + keyHeaderLenOf (o .encoding)) (length s) (x .header-inside k h))
-      ∙ ap (λ (a : ℕ). valueFrom (versionCount s o k) s o a limit) (first-place s o k)
+      ∙ ap (λ (a : ℕ). firstWithin (versionCount s o k) s o a limit) (first-place s o k)
       ∙ versions-both (versionCount s o k) 0 (zero-add (versionCount s o k))
       ∙ ap (λ (a : Located). given (locatedPairs a)) (sym (located-own s o «data» es x k h limit))

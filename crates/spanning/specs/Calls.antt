@@ -15,7 +15,7 @@ use Rattle.spans.specs.Span.{Pair, pairsWritten, spannedRead, spannedNumber}
 use Rattle.scans.specs.Spans.{spanOfNumbers, foundWritten}
 use Rattle.calls.specs.Calls.{place, Holding, Linker, holding, blocksHeld, LookupCall, GivesRecord}
 use Rattle.spanning.specs.Spans.{storeKeys, keysSpanned, SpanGives}
-use Rattle.spanning.specs.Reads.{SomeUnread, KeysGive}
+use Rattle.spanning.specs.Reads.{SomeUnread, RecordsGive}
 
 -- what a span over the bytes and numbers held answers, for so many places
 abbrev pub spanned : Holding → ℕ → ℕ → ℕ → ℕ → Answer (List Pair)
@@ -94,7 +94,7 @@ pub record SpanAnswer (h : Holding) (first count limit : ℕ) (c : SpanCall h fi
   pub zero : (c .result ≡ 0) ↔ (Passes h first count (length (c .before)) × (ReadFails h first count limit → ⊥))
   -- then the pairs of the key records read are left, in their order
   pub gives : c .result ≡ 0
-      → (ps : List Pair) × KeysGive (h .bytes) (openedOf (h .numbers)) first limit 0 count ps × PairsLeft h first count limit c ps
+      → (ps : List Pair) × RecordsGive (h .bytes) (openedOf (h .numbers)) first limit 0 count ps × PairsLeft h first count limit c ps
 
 -- every span, whatever bytes and numbers it is lent, is answered so
 unfoldable pub SpanAsked : Type 0

@@ -29,8 +29,8 @@ seqAt s o address j = o .«min_seq» + leAt s (placeAt s o address j) (o .encodi
 unfoldable pub markedAt : List ℕ → Opened → ℕ → ℕ → ℕ
 markedAt s o address j = leAt s (placeAt s o address j + o .encoding .seq) (o .encoding .value)
 
-unfoldable pub offsetAt : List ℕ → Opened → ℕ → ℕ → ℕ
-offsetAt s o address j = leAt s (placeAt s o address j + o .encoding .seq + o .encoding .value) (o .encoding .address)
+unfoldable pub valueOffsetAt : List ℕ → Opened → ℕ → ℕ → ℕ
+valueOffsetAt s o address j = leAt s (placeAt s o address j + o .encoding .seq + o .encoding .value) (o .encoding .address)
 
 -- where the value offset ends; the checksum behind it is not read
 unfoldable pub readEnd : List ℕ → Opened → ℕ → ℕ → ℕ
@@ -49,14 +49,14 @@ pub data Unread (s : List ℕ) (o : Opened) (limit address : ℕ) : Type 0 where
   sequence : (j : ℕ) → Reached s o limit address j → length s < placeAt s o address j + o .encoding .seq → Unread s o limit address
   sum : (j : ℕ) → Reached s o limit address j → 2 ^ 64 ≤ seqAt s o address j → Unread s o limit address
   -- value length and value offset of the first version within the limit
-  value : (j : ℕ) → Reached s o limit address j → seqAt s o address j ≤ limit → length s < readEnd s o address j → Unread s o limit address
+  valueFields : (j : ℕ) → Reached s o limit address j → seqAt s o address j ≤ limit → length s < readEnd s o address j → Unread s o limit address
 
 -- the pairs of the key record: the value of its first version within the limit, none for a tombstone or where every version is above
-pub data KeyGives (s : List ℕ) (o : Opened) (limit address : ℕ) : List Pair → Type 0 where
-  put : (j : ℕ) → Reached s o limit address j → seqAt s o address j ≤ limit → markedAt s o address j < topBit o
-      → KeyGives s o limit address (record { offset = offsetAt s o address j; len = markedAt s o address j } ∷ [])
-  tombstone : (j : ℕ) → Reached s o limit address j → seqAt s o address j ≤ limit → topBit o ≤ markedAt s o address j → KeyGives s o limit address []
-  none : ((j : ℕ) → j < headerAt s o address .versions → limit < seqAt s o address j) → KeyGives s o limit address []
+pub data RecordGives (s : List ℕ) (o : Opened) (limit address : ℕ) : List Pair → Type 0 where
+  putRead : (j : ℕ) → Reached s o limit address j → seqAt s o address j ≤ limit → markedAt s o address j < topBit o
+      → RecordGives s o limit address (record { offset = valueOffsetAt s o address j; len = markedAt s o address j } ∷ [])
+  tombstoneRead : (j : ℕ) → Reached s o limit address j → seqAt s o address j ≤ limit → topBit o ≤ markedAt s o address j → RecordGives s o limit address []
+  noneRead : ((j : ℕ) → j < headerAt s o address .versions → limit < seqAt s o address j) → RecordGives s o limit address []
 
 -- ---- the key records of a span
 
@@ -74,13 +74,13 @@ pub record SomeUnread (s : List ℕ) (o : Opened) (first count limit : ℕ) : Ty
   pub unread : Unread s o limit (addressRead s o first index)
 
 -- the pairs of so many of them from one on, those of one behind those of the one before
-pub data KeysGive (s : List ℕ) (o : Opened) (first limit : ℕ) : ℕ → ℕ → List Pair → Type 0 where
-  noKey : {i : ℕ} → KeysGive s o first limit i 0 []
-  nextKey : {i count : ℕ} {ps qs : List Pair} → KeyGives s o limit (addressRead s o first i) ps → KeysGive s o first limit (suc i) count qs
-      → KeysGive s o first limit i (suc count) (ps ++ qs)
+pub data RecordsGive (s : List ℕ) (o : Opened) (first limit : ℕ) : ℕ → ℕ → List Pair → Type 0 where
+  noRecord : {i : ℕ} → RecordsGive s o first limit i 0 []
+  nextRecord : {i count : ℕ} {ps qs : List Pair} → RecordGives s o limit (addressRead s o first i) ps → RecordsGive s o first limit (suc i) count qs
+      → RecordsGive s o first limit i (suc count) (ps ++ qs)
 
 -- they are one list: bytes, record, first key, count and limit leave no choice
-unfoldable pub KeysGiveOne : Type 0
-KeysGiveOne =
-    (s : List ℕ) (o : Opened) (first limit i count : ℕ) (ps qs : List Pair) → KeysGive s o first limit i count ps
-    → KeysGive s o first limit i count qs → ps ≡ qs
+unfoldable pub RecordsGiveOne : Type 0
+RecordsGiveOne =
+    (s : List ℕ) (o : Opened) (first limit i count : ℕ) (ps qs : List Pair) → RecordsGive s o first limit i count ps
+    → RecordsGive s o first limit i count qs → ps ≡ qs

@@ -26,7 +26,7 @@ use Rattle.arena.specs.Internal.{Narrow}
 use Rattle.arena.proofs.Reading.{version-le, key-header-narrow}
 use Rattle.versions.specs.Version.{storedSeq}
 use Rattle.locator.specs.Locator.{readable}
-use Rattle.spans.specs.Span.{Pair, valueEnd, unlessTombstone, valueAt, valueFrom, versionsStart, keyValue, nextAddress, pairsJoined, valuesFrom, pairNumbers, pairsWritten, spannedRead}
+use Rattle.spans.specs.Span.{Pair, valueEnd, unlessTombstone, valueAt, firstWithin, versionsStart, keyValue, nextAddress, pairsJoined, valuesFrom, pairNumbers, pairsWritten, spannedRead}
 use Rattle.spans.specs.declared.Spanned.the-variants.{Pairs, Refused}
 use Rattle.spans.specs.declared.VersionRead.{VersionRead}
 use Rattle.spans.specs.Internal.{valueRead, isFailed, isGiven, pairsOf}
@@ -89,8 +89,8 @@ at-few s o pos = value-few _ _
 
 -- what holds of the value of each version, of none and of 25 holds of the answer of some versions
 from-case : (P : Answer (List Pair) → Type 0) (s : List ℕ) (o : Opened) (limit : ℕ) → P (given []) → P (refused 25) → ((pos : ℕ) → P (given (valueAt s o pos)))
-    → (n pos : ℕ) → P (valueFrom n s o pos limit)
-unfolding valueFrom
+    → (n pos : ℕ) → P (firstWithin n s o pos limit)
+unfolding firstWithin
 from-case P s o limit empty fails holds zero pos = empty
 from-case P s o limit empty fails holds (suc n) pos =
     go (both (readable s pos (o .encoding .seq)) (ltb (storedSeq s o pos) (2 ^ 64))) (leb (storedSeq s o pos) limit)
@@ -98,19 +98,19 @@ from-case P s o limit empty fails holds (suc n) pos =
     (from-case P s o limit empty fails holds n (pos + versionLenOf (o .encoding)))
   where
     go : (read low : Bool) → P (if readable s pos (valueEnd (o .encoding)) then given (valueAt s o pos) else refused 25)
-        → P (valueFrom n s o (pos + versionLenOf (o .encoding)) limit)
+        → P (firstWithin n s o (pos + versionLenOf (o .encoding)) limit)
         → P (elim read [
           | false ↦ refused 25
           | true ↦ elim low [
             | true ↦ if readable s pos (valueEnd (o .encoding)) then given (valueAt s o pos) else refused 25
-            | false ↦ valueFrom n s o (pos + versionLenOf (o .encoding)) limit
+            | false ↦ firstWithin n s o (pos + versionLenOf (o .encoding)) limit
           ]
         ])
     go false low p q = fails
     go true true p q = p
     go true false p q = q
 
-from-few : (n : ℕ) (s : List ℕ) (o : Opened) (pos limit : ℕ) → length (pairsOf (valueFrom n s o pos limit)) ≤ 1
+from-few : (n : ℕ) (s : List ℕ) (o : Opened) (pos limit : ℕ) → length (pairsOf (firstWithin n s o pos limit)) ≤ 1
 unfolding pairsOf
 from-few n s o pos limit = from-case (λ a. length (pairsOf a) ≤ 1) s o limit (omega arith) (omega arith) (at-few s o) n pos
 
@@ -167,10 +167,10 @@ module _ (s : List ℕ) (o : Opened) (limit at : ℕ) where
 
   -- a key record by the numbers that code has of it
   module _ {h : KeyHeader} {header : ℕ} (e : h ≡ stands) (eh : header ≡ keyHeaderLenOf (o .encoding)) where
-    pub key-versions : o .arena + at + header ≤ length s → valueFrom (h .versions) s o (o .arena + at + (header + h .«suffix_len»)) limit ≡ key
+    pub key-versions : o .arena + at + header ≤ length s → firstWithin (h .versions) s o (o .arena + at + (header + h .«suffix_len»)) limit ≡ key
     unfolding keyValue readable versionsStart
     key-versions l =
-        ap₂ (λ (k : KeyHeader) (n : ℕ). valueFrom (k .versions) s o (o .arena + at + (n + k .«suffix_len»)) limit) e eh
+        ap₂ (λ (k : KeyHeader) (n : ℕ). firstWithin (k .versions) s o (o .arena + at + (n + k .«suffix_len»)) limit) e eh
         ∙ sym (if-true _ _ _ (le-leb (o .arena + at + keyHeaderLenOf (o .encoding)) (length s) (omega arith)))
 
     pub next-is : {size : ℕ} → size ≡ versionLenOf (o .encoding) → (at + (header + h .«suffix_len») + h .versions * size) % 2 ^ 32 ≡ nextAddress o at stands

@@ -20,7 +20,7 @@ use Rattle.encoding.specs.Encoding.{versionLenOf, tombstoneOf}
 use Rattle.header.specs.declared.Opened.{Opened}
 use Rattle.versions.specs.Version.{storedSeq, storedValue, kindIn, lengthIn, storedOffset}
 use Rattle.locator.specs.Locator.{readable}
-use Rattle.spans.specs.Span.{Pair, valueEnd, unlessTombstone, valueAt, valueFrom, pairNumbers}
+use Rattle.spans.specs.Span.{Pair, valueEnd, unlessTombstone, valueAt, firstWithin, pairNumbers}
 use Rattle.spans.specs.declared.VersionRead.{VersionRead}
 use Rattle.spans.specs.declared.VersionRead.the-variants.{At, Absent, Failed}
 use Rattle.spans.specs.Internal.{valueRead, isFailed, isGiven}
@@ -38,16 +38,16 @@ module _ (s : List ℕ) (o : Opened) (pos limit : ℕ) where
   abbrev answer : ℕ → Bool → Bool → Answer (List Pair)
   answer k read low =
       elim read [
-        | true ↦ elim low [ true ↦ met | false ↦ valueFrom k s o (pos + versionLenOf (o .encoding)) limit ]
+        | true ↦ elim low [ true ↦ met | false ↦ firstWithin k s o (pos + versionLenOf (o .encoding)) limit ]
         | false ↦ refused 25
       ]
 
-  one : (k : ℕ) (read low : Bool) → readOf ≡ read → leb (storedSeq s o pos) limit ≡ low → valueFrom (suc k) s o pos limit ≡ answer k read low
-  unfolding valueFrom
+  one : (k : ℕ) (read low : Bool) → readOf ≡ read → leb (storedSeq s o pos) limit ≡ low → firstWithin (suc k) s o pos limit ≡ answer k read low
+  unfolding firstWithin
   one k read low e f = ap₂ (answer k) e f
 
-  some : (n : ℕ) → 0 < n → valueFrom n s o pos limit ≡ valueFrom (suc (n - 1)) s o pos limit
-  some n h = let e : n ≡ suc (n - 1) = omega arith in ap (λ (k : ℕ). valueFrom k s o pos limit) e
+  some : (n : ℕ) → 0 < n → firstWithin n s o pos limit ≡ firstWithin (suc (n - 1)) s o pos limit
+  some n h = let e : n ≡ suc (n - 1) = omega arith in ap (λ (k : ℕ). firstWithin k s o pos limit) e
 
   read-yes : pos + o .encoding .seq ≤ length s → storedSeq s o pos < 2 ^ 64 → readOf ≡ true
   unfolding readable
@@ -56,30 +56,30 @@ module _ (s : List ℕ) (o : Opened) (pos limit : ℕ) where
   -- ---- of some versions, one is read
 
   -- its sequence is not read outside the section
-  pub value-outside : (n : ℕ) → 0 < n → length s < pos + o .encoding .seq → valueFrom n s o pos limit ≡ refused 25
+  pub value-outside : (n : ℕ) → 0 < n → length s < pos + o .encoding .seq → firstWithin n s o pos limit ≡ refused 25
   unfolding readable
   value-outside n h l = some n h ∙ one (n - 1) false _ (sym (both-no _ _ (lt-leb (pos + o .encoding .seq) (length s) l))) refl
 
   -- its sequence is not beyond 64 bits
-  pub value-beyond : (n : ℕ) → 0 < n → pos + o .encoding .seq ≤ length s → 2 ^ 64 ≤ storedSeq s o pos → valueFrom n s o pos limit ≡ refused 25
+  pub value-beyond : (n : ℕ) → 0 < n → pos + o .encoding .seq ≤ length s → 2 ^ 64 ≤ storedSeq s o pos → firstWithin n s o pos limit ≡ refused 25
   unfolding readable both
   value-beyond n h l b =
       some n h ∙ one (n - 1) false _ (rw (le-leb (pos + o .encoding .seq) (length s) l, le-ltb (storedSeq s o pos) (2 ^ 64) b)) refl
 
   -- its sequence is within the limit: it is the answer
   pub value-within : (n : ℕ) → 0 < n → pos + o .encoding .seq ≤ length s → storedSeq s o pos < 2 ^ 64 → storedSeq s o pos ≤ limit
-      → valueFrom n s o pos limit ≡ met
+      → firstWithin n s o pos limit ≡ met
   value-within n h l b w = some n h ∙ one (n - 1) true true (read-yes l b) (le-leb (storedSeq s o pos) limit w)
 
   -- or above it: the next one is asked
   pub value-above : (n : ℕ) → 0 < n → pos + o .encoding .seq ≤ length s → storedSeq s o pos < 2 ^ 64 → limit < storedSeq s o pos
-      → valueFrom n s o pos limit ≡ valueFrom (n - 1) s o (pos + versionLenOf (o .encoding)) limit
+      → firstWithin n s o pos limit ≡ firstWithin (n - 1) s o (pos + versionLenOf (o .encoding)) limit
   value-above n h l b w = some n h ∙ one (n - 1) true false (read-yes l b) (lt-leb (storedSeq s o pos) limit w)
 
   -- none is left
-  pub value-none : (n : ℕ) → n ≤ 0 → valueFrom n s o pos limit ≡ given []
-  unfolding valueFrom
-  value-none n h = let e : n ≡ 0 = omega arith in ap (λ (k : ℕ). valueFrom k s o pos limit) e
+  pub value-none : (n : ℕ) → n ≤ 0 → firstWithin n s o pos limit ≡ given []
+  unfolding firstWithin
+  value-none n h = let e : n ≡ 0 = omega arith in ap (λ (k : ℕ). firstWithin k s o pos limit) e
 
   -- the version within the limit is given where all that a span reads of it is inside
   pub met-inside : pos + valueEnd (o .encoding) ≤ length s → met ≡ given (valueAt s o pos)

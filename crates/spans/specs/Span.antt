@@ -50,14 +50,14 @@ valueAt s o pos =
 
 -- some versions from a place on: the value of the first whose sequence is not above the limit. Each sequence is read, and its sum must be
 -- below 2^64 (25); the rest is read only of that version, of a tombstone too.
-unfoldable pub valueFrom : ℕ → List ℕ → Opened → ℕ → ℕ → Answer (List Pair)
-valueFrom zero s o pos limit = given []
-valueFrom (suc count) s o pos limit =
+unfoldable pub firstWithin : ℕ → List ℕ → Opened → ℕ → ℕ → Answer (List Pair)
+firstWithin zero s o pos limit = given []
+firstWithin (suc count) s o pos limit =
     elim (both (readable s pos (o .encoding .seq)) (ltb (storedSeq s o pos) (2 ^ 64))) [
       | false ↦ refused 25
       | true ↦ elim (leb (storedSeq s o pos) limit) [
         | true ↦ ask readable s pos (valueEnd (o .encoding)) otherwise refused 25 then given (valueAt s o pos)
-        | false ↦ valueFrom count s o (pos + versionLenOf (o .encoding)) limit
+        | false ↦ firstWithin count s o (pos + versionLenOf (o .encoding)) limit
       ]
     ]
 
@@ -69,7 +69,7 @@ versionsStart o h = keyHeaderLenOf (o .encoding) + h .«suffix_len»
 unfoldable pub keyValue : List ℕ → Opened → ℕ → ℕ → KeyHeader → Answer (List Pair)
 keyValue s o limit address h =
     ask readable s (o .arena + address) (keyHeaderLenOf (o .encoding)) otherwise refused 25 then
-    valueFrom (h .versions) s o (o .arena + address + versionsStart o h) limit
+    firstWithin (h .versions) s o (o .arena + address + versionsStart o h) limit
 
 -- the address behind that key record, modulo 2^32
 unfoldable pub nextAddress : Opened → ℕ → KeyHeader → ℕ
@@ -119,5 +119,5 @@ spannedNumber (Refused n) = n
 
 -- for proofs alone: `unfolding span-defs` opens the definitions of this file
 unfoldable pub span-defs : ℕ
-unfolding scannable scanAddress valueEnd unlessTombstone valueAt valueFrom versionsStart keyValue nextAddress pairsJoined valuesFrom spanOf pairNumbers pairsWritten spannedRead spannedNumber
+unfolding scannable scanAddress valueEnd unlessTombstone valueAt firstWithin versionsStart keyValue nextAddress pairsJoined valuesFrom spanOf pairNumbers pairsWritten spannedRead spannedNumber
 span-defs = 0

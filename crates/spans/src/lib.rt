@@ -6,7 +6,7 @@ ghost use lib.ListN.{length};
 ghost use lib.Seq.{sets};
 ghost use Rattle.encoding.specs.Encoding.{keyHeaderLenOf};
 ghost use Rattle.arena.specs.Key.{keyHeaderAt};
-ghost use Rattle.spans.specs.Span.{valueEnd, valueAt, valueFrom, keyValue, nextAddress, valuesFrom, pairNumbers, pairsWritten, spannedRead};
+ghost use Rattle.spans.specs.Span.{valueEnd, valueAt, firstWithin, keyValue, nextAddress, valuesFrom, pairNumbers, pairsWritten, spannedRead};
 ghost use Rattle.spans.specs.Internal.{Spannable, Inside, valueRead, isFailed, isGiven, pairsOf};
 use header::Opened;
 
@@ -27,7 +27,7 @@ enum VersionRead {
 fn newest(section: &[u8], o: Opened, count: usize, from: usize, limit: u64) -> VersionRead
     requires { ⌜ Spannable o ⌝ }
     requires { ⌜ from < 2 ^ 40 ⌝ }
-    ensures { λ r. ⌜ (valueRead (now (section .entry)) o r ≡ valueFrom count (now (section .entry)) o from limit) × Inside (now (section .entry)) o r ⌝ }
+    ensures { λ r. ⌜ (valueRead (now (section .entry)) o r ≡ firstWithin count (now (section .entry)) o from limit) × Inside (now (section .entry)) o r ⌝ }
 {
     let e = o.encoding;
     let width = e.seq;

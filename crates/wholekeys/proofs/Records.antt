@@ -15,7 +15,7 @@ use Rattle.header.specs.declared.Opened.{Opened}
 use Rattle.arena.specs.declared.KeyHeader.{KeyHeader}
 use Rattle.arena.specs.Key.{keyHeaderAt}
 use Rattle.arena.proofs.Reading.{version-le, key-header-narrow}
-use Rattle.spans.specs.Span.{Pair, valueFrom, versionsStart, nextAddress, valuesFrom, pairNumbers}
+use Rattle.spans.specs.Span.{Pair, firstWithin, versionsStart, nextAddress, valuesFrom, pairNumbers}
 use Rattle.spans.specs.Internal.{isGiven, pairsOf}
 use Rattle.spans.proofs.Keys as keys
 use Rattle.wholekeys.specs.Internal.{recordEnd}
@@ -60,7 +60,7 @@ module _ (s : List ℕ) (o : Opened) (limit at : ℕ) {header size suffix versio
 
   -- the value of the key, and of the keys behind it
   abbrev found : Answer (List Pair)
-  found = valueFrom versions s o (o .arena + at + (header + suffix)) limit
+  found = firstWithin versions s o (o .arena + at + (header + suffix)) limit
 
   abbrev rest : ℕ → Answer (List Pair)
   rest n = valuesFrom (n - 1) s o limit ((at + (header + suffix) + versions * size) % 2 ^ 32)
@@ -71,7 +71,7 @@ module _ (s : List ℕ) (o : Opened) (limit at : ℕ) {header size suffix versio
   module _ (n : ℕ) (h : 0 < n) (e : isGiven (valuesFrom n s o limit at) ≡ true) where
     found-is : found ≡ keys.key s o limit at
     found-is =
-        ap₂ (λ (k m : ℕ). valueFrom k s o (o .arena + at + (header + m)) limit) versions-is suffix-is
+        ap₂ (λ (k m : ℕ). firstWithin k s o (o .arena + at + (header + m)) limit) versions-is suffix-is
         ∙ keys.key-versions s o limit at refl eh (let l = keys.key-inside s o limit at (keys.key-given s o limit at n h e .0) in omega arith)
 
     -- where nothing is refused, neither this key nor the others are

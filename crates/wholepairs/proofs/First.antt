@@ -14,7 +14,7 @@ use Rattle.arena.specs.Key.{keyHeaderAt}
 use Rattle.arena.proofs.Reading.{key-header-narrow}
 use Rattle.versions.specs.Version.{storedSeq}
 use Rattle.spans.specs.declared.Spanned.the-variants.{Pairs}
-use Rattle.spans.specs.Span.{Pair, valueEnd, valueAt, valueFrom, valuesFrom, pairNumbers, pairsWritten, spannedRead}
+use Rattle.spans.specs.Span.{Pair, valueEnd, valueAt, firstWithin, valuesFrom, pairNumbers, pairsWritten, spannedRead}
 use Rattle.spans.proofs.Keys.{one-key, key-versions}
 use Rattle.spans.proofs.Values.{value-within, value-above, value-none, met-inside}
 use Rattle.wholepairs.specs.declared.KeyWritten.the-variants.{Written}
@@ -34,13 +34,13 @@ module _ (s : List ℕ) (o : Opened) (limit at : ℕ) {suffix : ℕ} (ex : suffi
     from = o .arena + at + (header + suffix)
 
     -- the key's answer is that of its versions
-    versions-answer : valuesFrom 1 s o limit at ≡ valueFrom versions s o from limit
+    versions-answer : valuesFrom 1 s o limit at ≡ firstWithin versions s o from limit
     unfolding keyHeaderAt
     versions-answer =
         let place : o .arena + at + o .encoding .address + o .encoding .key + o .encoding .key ≡ o .arena + at + o .encoding .address + 2 * o .encoding .key = omega arith in
         let n : versions ≡ keyHeaderAt s (o .encoding) (o .arena + at) .versions = ev ∙ ap (λ (p : ℕ). leAt s p (o .encoding .count)) place in
         one-key s o limit at
-        ∙ sym (ap₂ (λ (k m : ℕ). valueFrom k s o (o .arena + at + (header + m)) limit) n ex ∙ key-versions s o limit at refl eh (omega arith))
+        ∙ sym (ap₂ (λ (k m : ℕ). firstWithin k s o (o .arena + at + (header + m)) limit) n ex ∙ key-versions s o limit at refl eh (omega arith))
 
     module _ (sum : storedSeq s o from < 2 ^ 64) where
       -- within the limit that version's value is the answer

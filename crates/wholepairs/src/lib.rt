@@ -5,7 +5,7 @@ ghost use lib.ListN.{length};
 ghost use lib.Seq.{sets};
 ghost use Rattle.encoding.specs.Encoding.{versionLenOf};
 ghost use Rattle.versions.specs.Version.{storedSeq};
-ghost use Rattle.spans.specs.Span.{scanAddress, valueEnd, valueAt, valueFrom, valuesFrom, pairNumbers};
+ghost use Rattle.spans.specs.Span.{scanAddress, valueEnd, valueAt, firstWithin, valuesFrom, pairNumbers};
 ghost use Rattle.spans.specs.Internal.{Spannable, pairsOf};
 ghost use Rattle.wholekeys.specs.Internal.{WholeKeys};
 ghost use Rattle.wholepairs.specs.Internal.{KeyPut};
@@ -94,8 +94,8 @@ fn put_newest(
     requires { ⌜ ((pos : ℕ) → storedSeq (now section) o pos < 2 ^ 64) ⌝ }
     requires { ⌜ from + versions * versionLenOf (o .encoding) + 8 ≤ length (now section) ⌝ }
     requires { ⌜ to + 2 ≤ length (now pairs) ⌝ }
-    ensures { λ r. ⌜ (r ≡ to + 2 * length (pairsOf (valueFrom versions (now (section .entry)) o from limit)))
-        × (now (pairs .exit) ≡ sets (now (pairs .entry)) to (pairNumbers (pairsOf (valueFrom versions (now (section .entry)) o from limit)))) ⌝ }
+    ensures { λ r. ⌜ (r ≡ to + 2 * length (pairsOf (firstWithin versions (now (section .entry)) o from limit)))
+        × (now (pairs .exit) ≡ sets (now (pairs .entry)) to (pairNumbers (pairsOf (firstWithin versions (now (section .entry)) o from limit)))) ⌝ }
 {
     let e = o.encoding;
     let mask = words::mask(e.seq);

@@ -5,7 +5,7 @@ use lib.ListN.{length}
 use Rattle.encoding.proofs.Widths.{widths-le}
 use Rattle.arena.proofs.Reading.{widths-read, version-le}
 use Rattle.locator.proofs.Versions.{stored-sum}
-use Rattle.spans.specs.Span.{valueEnd, valueFrom}
+use Rattle.spans.specs.Span.{valueEnd, firstWithin}
 use Rattle.spans.specs.Internal.{valueRead, Inside}
 use Rattle.spans.proofs.Values.{value-outside, value-beyond, value-within, value-above, value-none, met-inside, met-outside}
 use borrow.Author.Needs.{needs}
@@ -13,7 +13,7 @@ use Rattle.spans.proofs.newest.Statement.{statement}
 use Rattle.spans.proofs.newest.Tie as tie
 
 abbrev Inv-loop : tie.InvT-loop
-Inv-loop section o count from limit width end size most pos₀ left₀ pos left = (pos ≤ from + length section + 24) × (valueFrom left section o pos limit ≡ valueFrom count section o from limit)
+Inv-loop section o count from limit width end size most pos₀ left₀ pos left = (pos ≤ from + length section + 24) × (firstWithin left section o pos limit ≡ firstWithin count section o from limit)
 
 abbrev μ-loop : tie.MeasureT-loop
 μ-loop section o count from limit width end size most pos₀ left₀ pos left = left
@@ -119,7 +119,7 @@ loop-again c =
     let e = stored-sum (args .section .now) (args .o) (loop .pos) (uint .ensures) in
     let v = version .ensures in (
       omega (arith, version-le _ (pre .0 .widths)),
-      ap (λ (n : ℕ). valueFrom (loop .left - 1) (args .section .now) (args .o) (loop .pos + n) (args .limit)) v
+      ap (λ (n : ℕ). firstWithin (loop .left - 1) (args .section .now) (args .o) (loop .pos + n) (args .limit)) v
           ∙ sym (value-above (args .section .now) (args .o) (loop .pos) (args .limit) (loop .left) (search needs) (search needs) (omega arith) (omega arith))
           ∙ loop .inv .1,
     )

@@ -7,7 +7,7 @@ use lib.Seq.{sets, length-sets}
 use Rattle.encoding.specs.Encoding.{versionLenOf}
 use Rattle.arena.proofs.Reading.{widths-read}
 use Rattle.locator.proofs.Versions.{stored-sum}
-use Rattle.spans.specs.Span.{Pair, valueEnd, valueAt, valueFrom, pairNumbers}
+use Rattle.spans.specs.Span.{Pair, valueEnd, valueAt, firstWithin, pairNumbers}
 use Rattle.spans.specs.Internal.{pairsOf}
 use Rattle.spans.proofs.Values.{value-none}
 use Rattle.wholepairs.proofs.Versions.{version-room, room-within, room-above}
@@ -18,7 +18,7 @@ use Rattle.wholepairs.proofs.put_newest.Tie as tie
 abbrev Inv-loop : tie.InvT-loop
 Inv-loop section o versions from limit pairs₀ to e mask size pos₀ left₀ pairs pos left = (pairs ≡ pairs₀)
     × (pos + left * versionLenOf (o .encoding) + 8 ≤ length section)
-    × (valueFrom left section o pos limit ≡ valueFrom versions section o from limit)
+    × (firstWithin left section o pos limit ≡ firstWithin versions section o from limit)
 
 abbrev μ-loop : tie.MeasureT-loop
 μ-loop section o versions from limit pairs₀ to e mask size pos₀ left₀ pairs pos left = left
@@ -118,7 +118,7 @@ loop-again c =
     let s = version .ensures in (
       loop .inv .0,
       rw s (r .1),
-      ap (λ (n : ℕ). valueFrom (loop .left - 1) (args .section .now) (args .o) (loop .pos + n)
+      ap (λ (n : ℕ). firstWithin (loop .left - 1) (args .section .now) (args .o) (loop .pos + n)
           (args .limit)) s ∙ sym a ∙ loop .inv .2,
     )
 
