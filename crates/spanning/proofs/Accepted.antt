@@ -9,6 +9,7 @@ use native.Mathlib.Nat.{zero-add}
 use native.Mathlib.Omega.{arith}
 use lib.Dec.{leb}
 use lib.ListN.{length, getD, take, drop}
+use lib.Seq.{take-all}
 use borrow.Author.Tests.{le-leb, lt-leb, leb-true, leb-false, eq-eqb, ne-eqb}
 use Rattle.num.specs.Answer.{given, refused}
 use Rattle.num.specs.Number.{Bytes}
@@ -35,9 +36,9 @@ use Rattle.locating.specs.Store.{LinkerStore, Store, plainOpening, packedOpenin
 use Rattle.locating.specs.Looks.{lookup, Greatest, Answers, Looks, LooksExactly}
 use Rattle.locating.proofs.Plain.{plain-indexed}
 use Rattle.locating.proofs.Accepted.{store-indexed, lookup-exactly}
-use Rattle.spans.specs.Span.{Pair, scannable, spanOf}
+use Rattle.spans.specs.Span.{Pair, scannable, unlessTombstone, spanOf}
 use Rattle.scans.proofs.Asked.{scanned}
-use Rattle.spanning.specs.Spans.{storeKeys, StoreKeysRise, keysSpanned, span, KeyGives, value, tombstone, none, SpanGives, noKey, nextKey, Scans, Spans, SpansExactly, pairOf, locatedPairs, lookupPairs, SpanIsLookups}
+use Rattle.spanning.specs.Spans.{storeKeys, StoreKeysRise, keysSpanned, span, KeyGives, value, tombstone, none, SpanGives, noKey, nextKey, Scans, Spans, SpansExactly, locatedPairs, lookupPairs, SpanIsLookups, SpanOfAll}
 use Rattle.spanning.proofs.Keys.{arenaKeys, keys-length, keys-at, keys-part, keys-in}
 use Rattle.spanning.proofs.Chain.{scanned-found}
 use Rattle.spanning.proofs.Places.{found-lies, record-one}
@@ -46,8 +47,8 @@ use Rattle.spanning.proofs.Places.{found-lies, record-one}
 
 module _ (t : LinkerStore) (st : Store t) (limit : ℕ) where
   found-gives : (key : List ℕ) (v : Version) (l : ValueLocator) → lookup t key limit ≡ Found l → Greatest t key limit v → Answers t v l
-      → (k : Kind) → l .kind ≡ k → KeyGives t limit key (pairOf k (record { offset = l .offset; len = l .len }))
-  unfolding pairOf
+      → (k : Kind) → l .kind ≡ k → KeyGives t limit key (unlessTombstone k (record { offset = l .offset; len = l .len }))
+  unfolding unlessTombstone
   found-gives key v l f g a Put e = value v _ g (sym (a .kind) ∙ e) (found-lies t (store-indexed t st) key limit v l f g a)
   found-gives key v l f g a Tombstone e = tombstone v g (sym (a .kind) ∙ e)
 
@@ -131,7 +132,7 @@ module _ (t : LinkerStore) (a : Arena t) where
 -- in an accepted store the keys of the blocks rise, and are as many as the record says
 pub store-keys-rise : StoreKeysRise
 unfolding StoreKeysRise
-store-keys-rise t st = let a = arena t st in record { count = keys-count t a; rising = keys-rising t a; held = key-held t a; one = record-one t (store-indexed t st) }
+store-keys-rise t st = let a = arena t st in record { count = keys-count t a; ordered = record { rising = keys-rising t a; held = key-held t a; one = record-one t (store-indexed t st) } }
 
 -- ---- the questions of a span
 
@@ -249,3 +250,11 @@ pub span-is-lookups : SpanIsLookups
 unfolding SpanIsLookups
 span-is-lookups t st b c first count limit places k h =
     let l = keys-count t (arena t st) in span-given t st first count limit places c (omega arith) b h
+
+-- and the span of all keys what n lookups find
+pub span-of-all : SpanOfAll
+unfolding SpanOfAll SpanIsLookups keysSpanned
+span-of-all t st b c limit places h =
+    let l = keys-count t (arena t st) in
+    span-is-lookups t st b c 0 (t .opened .count) limit places (omega arith) h
+    ∙ ap (λ (keys : List (List ℕ)). given (lookupPairs t limit keys)) (take-all (t .opened .count) (storeKeys t) (omega arith))

@@ -11,7 +11,7 @@ use Rattle.num.specs.Number.{Bytes}
 use Rattle.num.proofs.Choice.{if-case}
 use Rattle.header.specs.declared.Opened.{Opened}
 use Rattle.opened.specs.Opened.{isRecord}
-use Rattle.locating.specs.Store.{LinkerStore, Version}
+use Rattle.locating.specs.Store.{LinkerStore, Version, Holds, storeVersions}
 use Rattle.locating.proofs.Accepted.{store-indexed}
 use Rattle.numbers.specs.Numbers.{recordNumbers, openedOf, isRecordNumbers}
 use Rattle.numbers.proofs.RecordNumbers.{record-read, record-is}
@@ -23,8 +23,8 @@ use Rattle.calls.specs.Calls.{place, Holding, holding, blocksHeld, GivesRecord}
 use Rattle.calls.proofs.Answers.{storeHeld, HoldsStore, held-none, held-greatest}
 use Rattle.calls.proofs.Calls.{linker-holds}
 use Rattle.calls.proofs.Given.{passed}
-use Rattle.spanning.specs.Spans.{storeKeys, StoreKeysRise, keysSpanned, span, ValueLies, KeyGives, value, tombstone, none, SpanGives, noKey, nextKey, Scans, Spans, SpansExactly, lookupPairs, SpanIsLookups}
-use Rattle.spanning.specs.Calls.{spanned, SpanCall, spanNumbers, SpansNumbered, NumbersScan, Passes, SpanAnswer, SpanAsked, PairsLeft, LookupsOf, answersPairs, SpanGiven, SpanCalls}
+use Rattle.spanning.specs.Spans.{storeKeys, StoreKeysRise, keysSpanned, span, ValueLies, KeyGives, value, tombstone, none, SpanGives, noKey, nextKey, KeysInOrder, Scans, Spans, SpansExactly, lookupPairs, SpanIsLookups}
+use Rattle.spanning.specs.Calls.{spanned, SpanCall, spanNumbers, SpansNumbered, NumbersScan, Passes, SpanAnswer, SpanAsked, PairsLeft, LookupsOf, answersPairs, SpanGiven, KeysHeld, LinkerKeys, SpanCalls}
 use Rattle.spanning.proofs.Accepted.{store-keys-rise, yes-scans, spans-exactly, span-is-lookups}
 use Rattle.spanning.proofs.Lookups.{answers-few, lookups-same}
 use Rattle.spanning.proofs.Asked.{read-number, scan-asked, pairs-left, span-asked}
@@ -108,6 +108,10 @@ module _ (h : Holding) (o : Opened) (limit : ℕ) where
   held-span : (keys : List (List ℕ)) (ps : List Pair) → SpanGives (storeHeld h o) limit keys ps → SpanGives (blocksHeld h) limit keys ps
   held-span keys ps noKey = noKey
   held-span keys ps (nextKey k r) = nextKey (held-key _ _ k) (held-span _ _ r)
+
+  held-ordered : KeysInOrder (storeHeld h o) → KeysInOrder (blocksHeld h)
+  unfolding storeKeys Holds storeVersions storeHeld blocksHeld
+  held-ordered k = record { rising = k .rising; held = k .held; one = k .one }
 
   held-keys : storeKeys (storeHeld h o) ≡ storeKeys (blocksHeld h)
   unfolding storeKeys storeHeld blocksHeld
@@ -220,6 +224,16 @@ module _ (h : Holding) (o : Opened) (x : HoldsStore h o) where
           never-24 = λ e. asked .refused-24 .0 e gives-record;
           never-25 = λ e. let q = passes (asked .refused-25 .0 e .0) in let z = gives (q .0) (q .1) (q .2) .0 in omega arith;
         }
+
+-- the keys of a linker's blocks are those that its numbers count, in order
+pub linker-keys : LinkerKeys
+unfolding LinkerKeys StoreKeysRise
+linker-keys k =
+    let x = linker-holds k in
+    record {
+      count = sym (keys-held (holding k) (x .0) (x .1));
+      ordered = held-ordered (holding k) (x .0) 0 (store-keys-rise (storeHeld (holding k) (x .0)) (x .1 .store) .ordered);
+    }
 
 -- a span by a linker gives the values of the keys that it spans
 pub span-calls : SpanCalls

@@ -2,6 +2,7 @@ pub mod Keys
 pub mod Values
 pub mod Chain
 pub mod Places
+pub mod One
 pub mod Judged
 pub mod Accepted
 pub mod Asked

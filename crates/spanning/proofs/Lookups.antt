@@ -21,12 +21,12 @@ use Rattle.locating.specs.Looks.{lookup, LooksExactly}
 use Rattle.locating.proofs.Accepted.{lookup-exactly}
 use Rattle.numbers.specs.Numbers.{recordNumbers, answerNumbers, noneNumbers}
 use Rattle.numbers.proofs.RecordNumbers.{record-read, record-is}
-use Rattle.spans.specs.Span.{Pair}
+use Rattle.spans.specs.Span.{Pair, unlessTombstone}
 use Rattle.looks.specs.Looked.{lookupOf, answerWritten}
 use Rattle.looks.proofs.Numbers.{looked-up}
 use Rattle.calls.specs.Calls.{place, Holding, LookupCall}
 use Rattle.calls.proofs.Answers.{storeHeld, HoldsStore}
-use Rattle.spanning.specs.Spans.{pairOf, locatedPairs, lookupPairs}
+use Rattle.spanning.specs.Spans.{locatedPairs, lookupPairs}
 use Rattle.spanning.specs.Calls.{LookupsOf, noLookup, nextLookup, answerPairs, answersPairs}
 
 -- the pairs of six numbers, by three of them
@@ -39,7 +39,7 @@ answer-places answer kind offset len a b c =
 
 -- the answer behind a lookup has the pairs of what is found
 written-pairs : (r : Located) (before : List ℕ) → length before ≡ 6 → ((n : ℕ) → r ≡ Refused n → ⊥) → answerPairs (answerWritten r before) ≡ locatedPairs r
-unfolding answerWritten locatedPairs answerNumbers if_then_else_ pairOf kindNumber
+unfolding answerWritten locatedPairs answerNumbers if_then_else_ unlessTombstone kindNumber
 written-pairs (Found l) before six n =
     answer-places (sets before 0 (answerNumbers l)) (kindNumber (l .kind)) (l .offset) (l .len)
     (getD-sets-inside (answerNumbers l) before 0 1 0 (omega arith) (omega arith))
@@ -48,7 +48,7 @@ written-pairs (Found l) before six n =
     ∙ kinds (l .kind)
   where
     kinds : (k : Kind) → (if eqb (kindNumber k) 1 then record { offset = l .offset; len = l .len } ∷ [] else [])
-        ≡ pairOf k (record { offset = l .offset; len = l .len })
+        ≡ unlessTombstone k (record { offset = l .offset; len = l .len })
     kinds Put = refl
     kinds Tombstone = refl
 written-pairs Missing before six n =

@@ -29,17 +29,12 @@ use Rattle.locating.proofs.Indexed.{Indexed}
 use Rattle.locating.proofs.Reading.{located-own}
 use Rattle.spans.specs.Span.{Pair, valueEnd, unlessTombstone, valueAt, firstWithin, versionsStart, keyValue}
 use Rattle.spans.proofs.Values.{value-within, value-above}
-use Rattle.spanning.specs.Spans.{pairOf, locatedPairs}
-
-kind-pairs : (k : Kind) (p : Pair) → unlessTombstone k p ≡ pairOf k p
-unfolding unlessTombstone pairOf
-kind-pairs Put p = refl
-kind-pairs Tombstone p = refl
+use Rattle.spanning.specs.Spans.{locatedPairs}
 
 -- the value at a place is that of the version at the place
 value-located : (s : List ℕ) (o : Opened) (pos : ℕ) → valueAt s o pos ≡ locatedPairs (Found (locatorAt s o pos))
 unfolding valueAt locatedPairs locatorAt
-value-located s o pos = kind-pairs _ _
+value-located s o pos = refl
 
 module _ (s : List ℕ) (o : Opened) (pos limit : ℕ) (r : pos + versionLenOf (o .encoding) ≤ length s) (b : storedSeq s o pos < 2 ^ 64) where
   -- a version within the limit is met by a span as by a lookup

@@ -14,7 +14,7 @@ use Rattle.numbered.specs.Numbers.{OwnNumber}
 use Rattle.spans.specs.Span.{Pair, pairsWritten, spannedRead, spannedNumber}
 use Rattle.scans.specs.Spans.{spanOfNumbers, foundWritten}
 use Rattle.calls.specs.Calls.{place, Holding, Linker, holding, blocksHeld, LookupCall, GivesRecord}
-use Rattle.spanning.specs.Spans.{storeKeys, keysSpanned, SpanGives}
+use Rattle.spanning.specs.Spans.{storeKeys, KeysInOrder, keysSpanned, SpanGives}
 use Rattle.spanning.specs.Reads.{SomeUnread, RecordsGive}
 
 -- what a span over the bytes and numbers held answers, for so many places
@@ -132,6 +132,14 @@ pub record SpanGiven (h : Holding) (first count limit : ℕ) (c : SpanCall h fir
   -- 24 and 25 do not occur
   pub never-24 : c .result ≡ 24 → ⊥
   pub never-25 : c .result ≡ 25 → ⊥
+
+-- the keys of a linker's data and list are as many as the number at place 2, and in order
+pub record KeysHeld (h : Holding) : Type 0 where
+  pub count : length (storeKeys (blocksHeld h)) ≡ place (h .numbers) 2
+  pub ordered : KeysInOrder (blocksHeld h)
+
+unfoldable pub LinkerKeys : Type 0
+LinkerKeys = (k : Linker) → KeysHeld (holding k)
 
 -- every span by a linker, whose section is a list of bytes, gives this
 unfoldable pub SpanCalls : Type 0

@@ -17,7 +17,7 @@ use Rattle.locator.specs.declared.Located.the-variants.{Found, Missing, Refused
 use Rattle.lookup.specs.Value.{valueNumber, valuePart}
 use Rattle.locating.specs.Store.{LinkerStore, Store, Version, versionIn, Holds}
 use Rattle.locating.specs.Looks.{lookup, NoneWithin, Greatest}
-use Rattle.spans.specs.Span.{Pair, spanOf}
+use Rattle.spans.specs.Span.{Pair, unlessTombstone, spanOf}
 
 -- ---- the keys of a store
 
@@ -35,13 +35,17 @@ keysListed (e ∷ es) = e .key ∷ keysBehind (e .key) es
 unfoldable pub storeKeys : LinkerStore → List (List ℕ)
 storeKeys t = keysListed (storeEntries (t .backing) (t .blocks))
 
--- in an accepted store they are n, in rising order, and every version has one of them; a key and a sequence name one record
-pub record KeysRise (t : LinkerStore) : Type 0 where
-  pub count : length (storeKeys t) ≡ t .opened .count
+-- they rise, every version has one of them, and a key and a sequence name one record
+pub record KeysInOrder (t : LinkerStore) : Type 0 where
   pub rising : (i : ℕ) → suc i < length (storeKeys t) → lessThan (getD (storeKeys t) i []) (getD (storeKeys t) (suc i) []) ≡ true
   pub held : (v : Version) → Holds t v → List·Memᴰ (v .key) (storeKeys t)
   pub one : (a b : Entry) → List·Memᴰ a (storeEntries (t .backing) (t .blocks)) → List·Memᴰ b (storeEntries (t .backing) (t .blocks))
       → a .key ≡ b .key → a .seq ≡ b .seq → a ≡ b
+
+-- in an accepted store they are n as well
+pub record KeysRise (t : LinkerStore) : Type 0 where
+  pub count : length (storeKeys t) ≡ t .opened .count
+  pub ordered : KeysInOrder t
 
 unfoldable pub StoreKeysRise : Type 0
 StoreKeysRise = (t : LinkerStore) → Store t → KeysRise t
@@ -80,6 +84,12 @@ pub data SpanGives (t : LinkerStore) (limit : ℕ) : List (List ℕ) → List Pa
   nextKey : {key : List ℕ} {keys : List (List ℕ)} {ps qs : List Pair} → KeyGives t limit key ps → SpanGives t limit keys qs
       → SpanGives t limit (key ∷ keys) (ps ++ qs)
 
+-- of keys in order they are one list: fewer pairs than keys with a value, or pairs of other keys, are not what a span gives
+unfoldable pub SpanGivesOne : Type 0
+SpanGivesOne =
+    (t : LinkerStore) → KeysInOrder t → (limit : ℕ) (keys : List (List ℕ)) (ps qs : List Pair) → SpanGives t limit keys ps → SpanGives t limit keys qs
+    → ps ≡ qs
+
 -- question 27 of a store: plain, scan present, address 4
 pub record Scans (t : LinkerStore) : Type 0 where
   pub plain : t .opened .packed ≡ false
@@ -104,14 +114,9 @@ SpansExactly = (t : LinkerStore) → Store t → Bytes (t .bytes) → (first cou
 
 -- ---- spans and lookups
 
--- a tombstone has no pair
-unfoldable pub pairOf : Kind → Pair → List Pair
-pairOf Put p = p ∷ []
-pairOf Tombstone p = []
-
 -- the pairs of what a lookup answers
 unfoldable pub locatedPairs : Located → List Pair
-locatedPairs (Found l) = pairOf (l .kind) (record { offset = l .offset; len = l .len })
+locatedPairs (Found l) = unlessTombstone (l .kind) (record { offset = l .offset; len = l .len })
 locatedPairs Missing = []
 locatedPairs (Refused n) = []
 
@@ -125,3 +130,9 @@ unfoldable pub SpanIsLookups : Type 0
 SpanIsLookups =
     (t : LinkerStore) → Store t → Bytes (t .bytes) → Scans t → (first count limit places : ℕ) → first + count ≤ length (storeKeys t)
     → 2 * count ≤ places → span t first count limit places ≡ given (lookupPairs t limit (keysSpanned t first count))
+
+-- so the span of all keys lists what n lookups find
+unfoldable pub SpanOfAll : Type 0
+SpanOfAll =
+    (t : LinkerStore) → Store t → Bytes (t .bytes) → Scans t → (limit places : ℕ) → 2 * t .opened .count ≤ places
+    → span t 0 (t .opened .count) limit places ≡ given (lookupPairs t limit (storeKeys t))
