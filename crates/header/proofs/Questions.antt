@@ -5,9 +5,9 @@ use mathlib.Core.Bool.{Bool, true, false}
 use mathlib.Core.List.{List, [], _∷_}
 use Prim.Native.Nat.{ℕ, _+_, _*_, _-_, _^_, _<_, _≤_}
 use native.Mathlib.Omega.{arith}
-use lib.Dec.{eqb, leb}
+use lib.Dec.{eqb}
 use lib.ListN.{length}
-use borrow.Author.Tests.{leb-true, le-leb, lt-leb, ltb-true, lt-ltb, le-ltb, eqb-true, eqb-false, eq-eqb, ne-eqb}
+use borrow.Author.Tests.{leb-true, le-leb, ltb-true, lt-ltb, le-ltb, eqb-true, eqb-false, eq-eqb, ne-eqb}
 use Rattle.num.specs.Choice.{either, oneOf}
 use Rattle.num.specs.Number.{Bytes, leAt}
 use Rattle.num.proofs.Choice.{both-no, both-yes, both-true, true-both, same-truth}
@@ -110,7 +110,7 @@ yes-dimensions o flags d f a =
     (true-both _ _ (le-leb flags 3 f)
     (eq-eqb _ _ (a ∙ ap (λ (b : ℕ). 64 + 4 * b + o .count * (o .encoding .address + 2)) (d .halved)))))))
 
-within-yes : (least most n : ℕ) → between least most n ≡ true → (least ≤ n) × (n ≤ most)
+pub within-yes : (least most n : ℕ) → between least most n ≡ true → (least ≤ n) × (n ≤ most)
 unfolding between
 within-yes least most n e = let b = both-true _ _ e in (leb-true least n (b .0), leb-true n most (b .1))
 
@@ -132,36 +132,6 @@ module _ (s : List ℕ) (o : Opened) (stored place : ℕ) (p : stored ≡ leAt s
   unfolding scanPart
   scan-stands e h =
       both-yes _ _ _ (eq-eqb _ _ (sym p ∙ e)) (both-yes _ _ _ (lt-ltb (o .arena) (scanPlaceOf s o) (omega arith)) (ap (λ (k : ℕ). standsAt s k scanMagic) q))
-
--- question 6, asked of the prefix length, the stride and the prefix count
-module _ (s : List ℕ) (scan n prefix : ℕ) (p : prefix ≡ leAt s (scan + 8) 4) where
-  pub settings-low : prefix < 1 → false ≡ scanSettings s scan n
-  unfolding scanSettings between
-  settings-low h = both-no _ _ (sym (both-no _ _ (lt-leb 1 (leAt s (scan + 8) 4) (omega arith))))
-
-  pub settings-high : maxScanPrefix < prefix → false ≡ scanSettings s scan n
-  unfolding scanSettings between
-  settings-high h =
-      both-no _ _ (sym (both-yes _ _ _ (le-leb 1 (leAt s (scan + 8) 4) (omega arith)) (sym (lt-leb (leAt s (scan + 8) 4) maxScanPrefix (omega arith)))))
-
-  module _ (l : 1 ≤ prefix) (h : prefix ≤ maxScanPrefix) (found : ℕ) (q : found ≡ leAt s (scan + 12) 4) where
-    short : between 1 maxScanPrefix (leAt s (scan + 8) 4) ≡ true
-    short = yes-within 1 maxScanPrefix (leAt s (scan + 8) 4) (omega arith) (omega arith)
-
-    pub settings-stride : (found ≡ stride → ⊥) → false ≡ scanSettings s scan n
-    unfolding scanSettings
-    settings-stride d = both-yes _ _ _ short (both-no _ _ (ne-eqb _ _ (λ e. d (q ∙ e))))
-
-    module _ (t : found ≡ stride) (prefixes : ℕ) (r : prefixes ≡ leAt s (scan + 16) 8) where
-      pub settings-none : prefixes < 1 → false ≡ scanSettings s scan n
-      unfolding scanSettings between
-      settings-none d =
-          both-yes _ _ _ short (both-yes _ _ _ (eq-eqb _ _ (sym q ∙ t)) (both-no _ _ (lt-leb 1 (leAt s (scan + 16) 8) (omega arith))))
-
-      pub settings-most : 1 ≤ prefixes → leb prefixes n ≡ scanSettings s scan n
-      unfolding scanSettings between
-      settings-most d =
-          both-yes _ _ _ short (both-yes _ _ _ (eq-eqb _ _ (sym q ∙ t)) (both-yes _ _ _ (le-leb 1 (leAt s (scan + 16) 8) (omega arith)) (ap (λ (k : ℕ). leb k n) r)))
 
 -- a scan part lies before its length and the last five bytes
 pub scan-inside : (s : List ℕ) (o : Opened) → scanPart s o ≡ true → scanPlaceOf s o + scanPartLen o + 8 + trailerLen ≡ length s

@@ -208,25 +208,15 @@ fn scan_part(section: &[u8], o: Opened, scan: usize) -> bool
 }
 
 // Question 6.
-fn scan_settings(section: &[u8], scan: usize, n: usize) -> bool
+pub fn scan_settings(section: &[u8], scan: usize, n: usize) -> bool
     requires { ⌜ scan + 24 ≤ length (now section) ⌝ }
     ensures { λ r. ⌜ r ≡ scanSettings (now (section .entry)) scan n ⌝ }
 {
     let prefix = num::u32_at(section, scan + 8) as usize;
-    if prefix < 1 {
-        return false;
-    }
-    if Encoding::MAX_SCAN_PREFIX < prefix {
-        return false;
-    }
-    if num::u32_at(section, scan + 12) != Encoding::STRIDE {
-        return false;
-    }
     let prefixes = num::u64_at(section, scan + 16) as usize;
-    if prefixes < 1 {
-        return false;
-    }
-    prefixes <= n
+    ((1 <= prefix) & (prefix <= Encoding::MAX_SCAN_PREFIX))
+        & ((num::u32_at(section, scan + 12) == Encoding::STRIDE)
+            & ((1 <= prefixes) & (prefixes <= n)))
 }
 
 // Questions 5 and 6.

@@ -1,12 +1,12 @@
--- A span of one key, of a record that 24 and 27 hold of.
+-- A span of one key, of a record that 24, 27 and 28 hold of.
 -- Assumes nothing.
 use mathlib.Core.Path.{_≡_, refl, ap, _∙_, subst}
 use mathlib.Core.Bool.{true}
 use mathlib.Core.List.{List}
-use Prim.Native.Nat.{ℕ, _+_, _*_, _<_, _≤_}
+use Prim.Native.Nat.{ℕ, _+_, _*_, _≤_}
 use native.Mathlib.Omega.{arith}
 use lib.Dec.{leb}
-use lib.ListN.{length, getD}
+use lib.ListN.{length}
 use borrow.Author.Tests.{le-leb}
 use Rattle.num.specs.Answer.{Answer}
 use Rattle.num.specs.Number.{leAt}
@@ -20,33 +20,32 @@ use Rattle.wholepairs.specs.declared.KeyWritten.{KeyWritten}
 use Rattle.wholepairs.specs.declared.KeyWritten.the-variants.{Written, Left}
 use Rattle.usual.specs.Internal.{ScanRecord}
 use Rattle.scans.specs.Spans.{spanOfNumbers}
-use Rattle.scans.proofs.Asked.{spannable, table-inside, read-from, walked}
+use Rattle.scans.proofs.Asked.{spannable, table-inside, read-from, told-of, walked}
 use Rattle.scans.proofs.Numbers.{spanned-over}
 
-module _ (s numbers : List ℕ) (r : ScanRecord s numbers) (first limit places : ℕ) where
+module _ (s numbers : List ℕ) (first limit places : ℕ) (r : ScanRecord s numbers first) where
   abbrev whole : Answer (List Pair)
   whole = spanOfNumbers s numbers first 1 limit places
 
-  module _ (h : first < getD numbers 2 0) where
-    inside : leb (first + 1) (openedOf numbers .count) ≡ true
-    unfolding openedOf
-    inside = le-leb (first + 1) (openedOf numbers .count) (omega arith)
+  inside : leb (first + 1) (openedOf numbers .count) ≡ true
+  unfolding openedOf
+  inside = let h = r .below in le-leb (first + 1) (openedOf numbers .count) (omega arith)
 
-    module _ {o : Opened} (e : o ≡ openedOf numbers) where
-      -- its scan address is read inside the section
-      pub one-table : o .scan + 24 + 4 * first + 4 ≤ length s
-      one-table = omega (arith, ap (λ (p : Opened). p .scan) e, table-inside s (openedOf numbers) (r .held) (r .scans) first 1 inside)
+  module _ {o : Opened} (e : o ≡ openedOf numbers) where
+    -- its scan address is read inside the section
+    pub one-table : o .scan + 24 + 4 * first + 4 ≤ length s
+    one-table = omega (arith, ap (λ (p : Opened). p .scan) e, table-inside s (openedOf numbers) (r .held) (r .scans) first 1 inside)
 
-      pub one-spannable : Spannable o
-      one-spannable = rw e (spannable s (openedOf numbers) (r .held) (r .scans))
+    pub one-spannable : Spannable o
+    one-spannable = rw e (spannable s (openedOf numbers) (r .held) (r .scans))
 
-      -- the key that stands there is the span
-      pub one-is : {address : ℕ} → address ≡ leAt s (o .scan + 24 + 4 * first) 4 → 2 ≤ places → valuesFrom 1 s o limit address ≡ whole
-      one-is ea l =
-          read-from s o first 1 limit (one-spannable .four) ea
-          ∙ ap (λ (p : Opened). valuesFrom 1 s p limit (scanAddress s p first)) e
-          ∙ walked s (openedOf numbers) first 1 limit places (r .held) (r .scans) inside (omega arith)
-          ∙ spanned-over s numbers first 1 limit places (r .numbers) refl
+    -- the key that stands there is the span
+    pub one-is : {address : ℕ} → address ≡ leAt s (o .scan + 24 + 4 * first) 4 → 2 ≤ places → valuesFrom 1 s o limit address ≡ whole
+    one-is ea l =
+        read-from s o first 1 limit (one-spannable .four) ea
+        ∙ ap (λ (p : Opened). valuesFrom 1 s p limit (scanAddress s p first)) e
+        ∙ walked s (openedOf numbers) first 1 limit places (r .held) (r .scans) inside (omega arith)
+        ∙ spanned-over s numbers first 1 limit places (r .numbers) refl
 
 -- what was put of one answer was put of the same
 pub put-over : {a x : Answer (List Pair)} → a ≡ x → (v : KeyWritten) (before after : List ℕ) → KeyPut v a before after → KeyPut v x before after
@@ -56,9 +55,7 @@ module _ (a : Answer (List Pair)) (before after : List ℕ) {v : KeyWritten} (pu
   -- what the key's reader wrote is what the span gives
   pub written-told : {n : ℕ} → v ≡ Written n → (x : Answer (List Pair)) → a ≡ x → (Pairs n ≡ spannedRead x) × (after ≡ pairsWritten x before)
   unfolding KeyPut
-  written-told ev x e =
-      let told = subst (λ (k : KeyWritten). KeyPut k a before after) ev put in
-      (told .0 ∙ ap spannedRead e, told .1 ∙ ap (λ (b : Answer (List Pair)). pairsWritten b before) e)
+  written-told ev x e = told-of e before (subst (λ (k : KeyWritten). KeyPut k a before after) ev put)
 
   -- and what it leaves it keeps
   pub left-kept : v ≡ Left → after ≡ before

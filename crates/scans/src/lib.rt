@@ -147,7 +147,7 @@ fn answered(spanned: Spanned, found: &mut u64) -> u64
     }
 }
 
-// One key of a record that 24 and 27 hold of. What 28 and 29 refuse is left to the general path.
+// One key of a record that 24, 27 and 28 hold of. What 29 refuses is left.
 fn one_key(
     section: &[u8],
     numbers: &[u64; 16],
@@ -155,12 +155,9 @@ fn one_key(
     limit: u64,
     pairs: &mut [u64],
 ) -> KeyWritten
-    requires { ⌜ ScanRecord (now section) (now numbers) ⌝ }
+    requires { ⌜ ScanRecord (now section) (now numbers) first ⌝ }
     ensures { λ r. ⌜ KeyPut r (spanOfNumbers (now (section .entry)) (now (numbers .entry)) first 1 limit (length (now (pairs .entry)))) (now (pairs .entry)) (now (pairs .exit)) ⌝ }
 {
-    if numbers[2] <= first {
-        return KeyWritten::Left;
-    }
     if pairs.len() < 2 {
         return KeyWritten::Left;
     }
@@ -184,7 +181,7 @@ pub fn span(
         × (now (pairs .exit) ≡ pairsWritten (spanOfNumbers (now (section .entry)) (now (numbers .entry)) first count limit (length (now (pairs .entry)))) (now (pairs .entry)))
         × (now (found .exit) ≡ foundWritten (spanOfNumbers (now (section .entry)) (now (numbers .entry)) first count limit (length (now (pairs .entry)))) (now (found .entry))) ⌝ }
 {
-    if !usual::scan_record(section, numbers, first) {
+    if !usual::is_scan_record(section, numbers, first) {
         let spanned = general_span(section, numbers, first, count, limit, pairs);
         return answered(spanned, found);
     }
@@ -192,10 +189,10 @@ pub fn span(
         let spanned = record_span(section, numbers, first, count, limit, pairs);
         return answered(spanned, found);
     }
-    let read = one_key(section, numbers, first, limit, pairs);
-    match read {
+    let written = one_key(section, numbers, first, limit, pairs);
+    match written {
         KeyWritten::Written(n) => answered(Spanned::Pairs(n), found),
-        // The general path has two callers and so stays out of line, which keeps this function short.
+        // `general_span` has two callers and so stays out of line, which keeps this function short.
         KeyWritten::Left => {
             let spanned = general_span(section, numbers, first, 1, limit, pairs);
             answered(spanned, found)

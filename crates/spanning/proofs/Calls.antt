@@ -24,7 +24,7 @@ use Rattle.calls.proofs.Answers.{storeHeld, HoldsStore, held-none, held-greates
 use Rattle.calls.proofs.Calls.{linker-holds}
 use Rattle.calls.proofs.Given.{passed}
 use Rattle.spanning.specs.Spans.{storeKeys, StoreKeysRise, keysSpanned, span, ValueLies, KeyGives, value, tombstone, none, SpanGives, noKey, nextKey, KeysInOrder, Scans, Spans, SpansExactly, lookupPairs, SpanIsLookups}
-use Rattle.spanning.specs.Calls.{spanned, SpanCall, spanNumbers, SpansNumbered, NumbersScan, Passes, SpanAnswer, SpanAsked, PairsLeft, LookupsOf, answersPairs, SpanGiven, KeysHeld, LinkerKeys, SpanCalls}
+use Rattle.spanning.specs.Calls.{spanned, SpanCall, spanNumbers, SpansNumbered, NumbersScan, Passes, SpanAnswer, SpanAsked, PairsLeft, LookupsOf, answersPairs, SpanGiven, LinkerKeys, SpanCalls}
 use Rattle.spanning.proofs.Accepted.{store-keys-rise, yes-scans, spans-exactly, span-is-lookups}
 use Rattle.spanning.proofs.Lookups.{answers-few, lookups-same}
 use Rattle.spanning.proofs.Asked.{read-number, scan-asked, pairs-left, span-asked}

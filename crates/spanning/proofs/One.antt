@@ -10,7 +10,7 @@ use Rattle.admission.specs.Blocks.{storeEntries}
 use Rattle.locating.specs.Store.{LinkerStore, Version, versionIn, storeVersions, Holds}
 use Rattle.locating.specs.Looks.{NoneWithin, Greatest}
 use Rattle.spans.specs.Span.{Pair}
-use Rattle.spanning.specs.Spans.{KeysInOrder, ValueLies, KeyGives, value, tombstone, none, SpanGives, noKey, nextKey, SpanGivesOne}
+use Rattle.spanning.specs.Spans.{KeysInOrder, ValueLies, KeyGives, value, tombstone, none, noKey, nextKey, SpanGivesOne}
 
 module _ (t : LinkerStore) (k : KeysInOrder t) (limit : ℕ) (key : List ℕ) where
   -- a record of the blocks that is this version

@@ -11,8 +11,6 @@ use lib.ListN.{length}
 use borrow.Author.Tests.{leb-true, leb-false, le-leb}
 use Rattle.num.specs.Answer.{given}
 use Rattle.num.proofs.Choice.{if-true}
-use Rattle.sstable.specs.declared.Kind.{Kind}
-use Rattle.sstable.specs.declared.Kind.the-variants.{Put, Tombstone}
 use Rattle.block.specs.Walk.{Entry}
 use Rattle.encoding.specs.Encoding.{keyHeaderLenOf, versionLenOf}
 use Rattle.header.specs.declared.Opened.{Opened}
@@ -27,7 +25,7 @@ use Rattle.locator.proofs.Versions as located
 use Rattle.lookup.specs.Lookup.{locateOf}
 use Rattle.locating.proofs.Indexed.{Indexed}
 use Rattle.locating.proofs.Reading.{located-own}
-use Rattle.spans.specs.Span.{Pair, valueEnd, unlessTombstone, valueAt, firstWithin, versionsStart, keyValue}
+use Rattle.spans.specs.Span.{valueEnd, valueAt, firstWithin, versionsStart, keyValue}
 use Rattle.spans.proofs.Values.{value-within, value-above}
 use Rattle.spanning.specs.Spans.{locatedPairs}
 

@@ -8,7 +8,6 @@ use lib.ListN.{length, getD, take, drop}
 use Rattle.num.specs.Answer.{Answer, given, refused}
 use Rattle.num.specs.Number.{Bytes}
 use Rattle.num.specs.Order.{equalBytes, lessThan}
-use Rattle.sstable.specs.declared.Kind.{Kind}
 use Rattle.sstable.specs.declared.Kind.the-variants.{Put, Tombstone}
 use Rattle.block.specs.Walk.{Entry}
 use Rattle.admission.specs.Blocks.{storeEntries}

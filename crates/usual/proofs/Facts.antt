@@ -1,4 +1,4 @@
--- The tests of `scan_record` say that questions 24 and 27 are answered with yes.
+-- The tests of `is_scan_record` say that questions 24 and 27 are answered with yes.
 -- Assumes nothing.
 use mathlib.Core.Path.{_≡_, refl, sym, ap, _∙_, subst⁻¹}
 use mathlib.Core.Bool.{Bool, true, false, not}
@@ -14,15 +14,15 @@ use Rattle.num.proofs.Number.{leAt-lt, leAt-split}
 use Rattle.num.proofs.Choice.{both-true, true-both}
 use Rattle.num.proofs.Order.{equalBytes-true}
 use Rattle.encoding.specs.Encoding.{Widths, scanMagic}
-use Rattle.header.specs.Header.{standsAt, begins, usualWidths}
+use Rattle.header.specs.Header.{standsAt, begins, usualWidths, scanSettings}
 use Rattle.header.specs.Facts.{Numbers, Scan, fromPlain}
-use Rattle.header.proofs.Questions.{begins-yes, widths-yes, usual-allowed, one-or-two}
+use Rattle.header.proofs.Questions.{begins-yes, widths-yes, usual-allowed, one-or-two, within-yes}
 use Rattle.opened.proofs.Records.{facts-record}
 use Rattle.numbers.specs.Numbers.{openedOf, isRecordNumbers}
 use Rattle.held.specs.Held.{says}
 use Rattle.held.proofs.Exactly.{few-keys}
 use Rattle.spans.specs.Span.{scannable}
-use Rattle.usual.specs.Internal.{usualNumbers, fieldsMatch, startMatches, scanMatches, ScanRecord}
+use Rattle.usual.specs.Internal.{usualNumbers, fieldsMatch, startMatches, scanMatches, KeyCounted, ScanRecord}
 
 -- a number from 1 to 4 that is not 3 is a width of sequences
 seq-width : (w : ℕ) → 0 < w → w ≤ 4 → (w ≡ 3 → ⊥) → oneOf (1 ∷ 2 ∷ 4 ∷ 8 ∷ []) w ≡ true
@@ -116,25 +116,25 @@ module _ (s r : List ℕ) (u : Usual r) where
 
   -- the tests of the scan part give questions 5 and 6 at the place that leaves room for it
   says-scan : (scan : ℕ) → scan + (37 + 4 * getD r 2 0) ≡ length s → getD r 11 0 ≡ scan → getD r 4 0 < scan → scanMatches s (getD r 2 0) scan ≡ true → Scan s (openedOf r)
-  unfolding scanMatches standsAt scanMagic openedOf
+  unfolding scanMatches standsAt scanMagic scanSettings openedOf
   says-scan scan room e after t =
       let a = both-true _ _ t in
       let b = both-true _ _ (a .1) in
       let c = both-true _ _ (b .1) in
-      let prefix = both-true _ _ (c .0) in
       let d = both-true _ _ (c .1) in
-      let prefixes = both-true _ _ (d .1) in
+      let prefix = within-yes 1 24 (leAt s (scan + 8) 4) (c .0) in
+      let prefixes = within-yes 1 (getD r 2 0) (leAt s (scan + 16) 8) (d .1) in
       let n = addresses in
       rw e (record {
         stored = eqb-true (leAt s (length s - 13) 8) (24 + 4 * getD r 2 0) (a .0) ∙ ap (λ (k : ℕ). 24 + k) (sym n);
         place = omega arith;
         after = after;
         magic = equalBytes-true _ _ (b .0);
-        prefix-some = leb-true 1 (leAt s (scan + 8) 4) (prefix .0);
-        prefix-short = leb-true (leAt s (scan + 8) 4) 24 (prefix .1);
+        prefix-some = prefix .0;
+        prefix-short = prefix .1;
         stride = eqb-true (leAt s (scan + 12) 4) 32 (d .0);
-        prefixes-some = leb-true 1 (leAt s (scan + 16) 8) (prefixes .0);
-        prefixes-few = leb-true (leAt s (scan + 16) 8) (getD r 2 0) (prefixes .1);
+        prefixes-some = prefixes .0;
+        prefixes-few = prefixes .1;
       })
 
   -- the arena start as the header's facts have it
@@ -145,12 +145,12 @@ module _ (s r : List ℕ) (u : Usual r) where
       omega arith
 
 -- the tests say that the numbers are a record, that the section gives it, and that it can be scanned
-module _ (s r : List ℕ) (bytes : Bytes s) (buckets arena scan : ℕ) where
-  pub scan-record : begins s ≡ true → usualNumbers r ≡ true → fieldsMatch s r buckets ≡ true → startMatches s r arena scan ≡ true
+module _ (s r : List ℕ) (bytes : Bytes s) (first buckets arena scan : ℕ) where
+  pub scan-record : KeyCounted s r first → begins s ≡ true → usualNumbers r ≡ true → fieldsMatch s r buckets ≡ true → startMatches s r arena scan ≡ true
       → scanMatches s (getD r 2 0) scan ≡ true → buckets ≡ (getD r 2 0 + 1) / 2 → arena ≡ 64 + 4 * buckets + 6 * getD r 2 0
-      → scan + (37 + 4 * getD r 2 0) ≡ length s → ScanRecord s r
+      → scan + (37 + 4 * getD r 2 0) ≡ length s → ScanRecord s r first
   unfolding fieldsMatch startMatches says isRecordNumbers scannable openedOf
-  scan-record b n h t p halved starts room =
+  scan-record counted b n h t p halved starts room =
       let u = usual-yes r n in
       let a = both-true _ _ t in
       let c = both-true _ _ (a .1) in
@@ -161,7 +161,7 @@ module _ (s r : List ℕ) (bytes : Bytes s) (buckets arena scan : ℕ) where
       let flags = eqb-true (leAt s 52 4) (getD r 10 0 + 2) (f .0) in
       let scanned = eqb-true (getD r 11 0) scan (g .0) in
       let after = ltb-true arena scan (g .1) in
-      let held = eqb-true (getD r 3 0) buckets (both-true _ _ (both-true _ _ (both-true _ _ (both-true _ _ (both-true _ _ h .1) .1) .1) .1) .1) in
+      let same = eqb-true (getD r 3 0) buckets (both-true _ _ (both-true _ _ (both-true _ _ (both-true _ _ (both-true _ _ h .1) .1) .1) .1) .1) in
       let k = u .checksum in
       let z = u .plain in
       let plain = ne-eqb (getD r 12 0) 1 (λ e. omega arith) in
@@ -172,13 +172,14 @@ module _ (s r : List ℕ) (bytes : Bytes s) (buckets arena scan : ℕ) where
           plain = plain;
           begins = begins-yes s b;
           numbers = says-numbers s r u bytes buckets h flags;
-          dimensions = record { some = u .some; few = u .few; halved = held ∙ halved; widths = u .widths };
+          dimensions = record { some = u .some; few = u .few; halved = same ∙ halved; widths = u .widths };
           flags = omega arith;
           stored = own ∙ sym (eqb-true (leAt s 24 8) arena (d .0));
-          start = arena-start s r u (held ∙ halved) (omega arith);
+          start = arena-start s r u (same ∙ halved) (omega arith);
           below = omega arith;
           scanned = λ _. says-scan s r u scan room scanned (omega arith) p;
           unscanned = λ l. absurd (omega arith);
         }));
         scans = true-both _ _ (ap not plain) (true-both _ _ (ap not placed) (eq-eqb (getD r 5 0) 4 (u .address)));
+        below = counted .below;
       }

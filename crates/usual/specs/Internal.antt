@@ -1,5 +1,5 @@
--- Not on the reading path: the tests of `scan_record`, as code asks them.
-use Prim.Native.Nat.{ℕ, _+_, _*_, _-_, _^_}
+-- Not on the reading path: the tests of `is_scan_record`, as code asks them.
+use Prim.Native.Nat.{ℕ, _+_, _*_, _-_, _^_, _<_, _≤_}
 use mathlib.Core.Path.{_≡_}
 use mathlib.Core.List.{List}
 use mathlib.Core.Bool.{Bool, true, not}
@@ -7,8 +7,8 @@ use lib.Dec.{eqb, leb, ltb}
 use lib.ListN.{length, getD}
 use Rattle.num.specs.Choice.{both}
 use Rattle.num.specs.Number.{leAt}
-use Rattle.encoding.specs.Encoding.{scanMagic, stride}
-use Rattle.header.specs.Header.{standsAt, usualWidths}
+use Rattle.encoding.specs.Encoding.{scanMagic}
+use Rattle.header.specs.Header.{standsAt, usualWidths, scanSettings}
 use Rattle.opened.specs.Opened.{isRecord}
 use Rattle.numbers.specs.Numbers.{openedOf, isRecordNumbers}
 use Rattle.held.specs.Held.{says}
@@ -43,14 +43,16 @@ startMatches s r arena scan =
 -- the scan part of n keys at a place
 unfoldable pub scanMatches : List ℕ → ℕ → ℕ → Bool
 scanMatches s n scan =
-    both (eqb (leAt s (length s - 13) 8) (24 + 4 * n))
-    (both (standsAt s scan scanMagic)
-    (both (both (leb 1 (leAt s (scan + 8) 4)) (leb (leAt s (scan + 8) 4) 24))
-    (both (eqb (leAt s (scan + 12) 4) stride)
-    (both (leb 1 (leAt s (scan + 16) 8)) (leb (leAt s (scan + 16) 8) n)))))
+    both (eqb (leAt s (length s - 13) 8) (24 + 4 * n)) (both (standsAt s scan scanMagic) (scanSettings s scan n))
 
--- 24 and 27 are answered with yes
-pub record ScanRecord (s r : List ℕ) : Type 0 where
+-- the numbers count the key, and the section has room for the scan part of as many keys
+pub record KeyCounted (s r : List ℕ) (first : ℕ) : Type 0 where
+  pub below : first < getD r 2 0
+  pub room : 37 + 4 * getD r 2 0 ≤ length s
+
+-- 24 and 27 are answered with yes, and the numbers count the key
+pub record ScanRecord (s r : List ℕ) (first : ℕ) : Type 0 where
   pub numbers : isRecordNumbers r ≡ true
   pub held : isRecord s (openedOf r) ≡ true
   pub scans : scannable (openedOf r) ≡ true
+  pub below : first < getD r 2 0

@@ -4,7 +4,7 @@ ghost use mathlib.Core.Path.{_≡_};
 ghost use mathlib.Core.Bool.{true};
 ghost use Prim.Native.Nat.{_+_, _*_, _^_, _≤_, _<_};
 ghost use lib.ListN.{length};
-ghost use Rattle.usual.specs.Internal.{usualNumbers, fieldsMatch, startMatches, scanMatches, ScanRecord};
+ghost use Rattle.usual.specs.Internal.{usualNumbers, fieldsMatch, startMatches, scanMatches, KeyCounted, ScanRecord};
 use encoding::Encoding;
 
 // The numbers alone: how many keys, the widths, the checksum flag, and not packed.
@@ -54,19 +54,18 @@ fn scan_matches(section: &[u8], n: u64, scan: usize) -> bool
     requires { ⌜ scan + (37 + 4 * n) ≡ length (now section) ⌝ }
     ensures { λ r. ⌜ r ≡ scanMatches (now (section .entry)) n scan ⌝ }
 {
-    let prefix = num::u32_at(section, scan + 8);
-    let prefixes = num::u64_at(section, scan + 16);
     (num::u64_at(section, section.len() - 13) == 24 + 4 * n)
         & (header::stands_at(section, scan, &Encoding::SCAN_MAGIC)
-            & (((1 <= prefix) & (prefix <= 24))
-                & ((num::u32_at(section, scan + 12) == Encoding::STRIDE)
-                    & ((1 <= prefixes) & (prefixes <= n)))))
+            & header::scan_settings(section, scan, n as usize))
 }
 
-// Does a key's header lie inside the section, at the address that the scan part has where the numbers put it?
-fn header_inside(section: &[u8], numbers: &[u64; 16], key: u64) -> bool {
+// Is the key counted by the numbers, and does the section reach as far as a span reads of its key header: four bytes, two lengths, and the word that
+// begins with the number of versions? The load of the key's address, the first that may have to wait for memory, is made here, before the tests of 24.
+fn header_inside(section: &[u8], numbers: &[u64; 16], first: u64) -> bool
+    ensures { λ r. ⌜ (r ≡ true → KeyCounted (now (section .entry)) (now (numbers .entry)) first) ⌝ }
+{
     let n = numbers[2];
-    if n <= key {
+    if n <= first {
         return false;
     }
     if 0x8000_0000 <= n {
@@ -81,15 +80,14 @@ fn header_inside(section: &[u8], numbers: &[u64; 16], key: u64) -> bool {
     if all < arena {
         return false;
     }
-    let address = num::u32_at(section, (all - behind + 24 + 4 * key) as usize) as u64;
+    let address = num::u32_at(section, (all - behind + 24 + 4 * first) as usize) as u64;
     arena + address + 14 <= all
 }
 
-// Are these numbers a record that the section gives, plain and with a scan part? A no says nothing: it is also the answer to other widths, and to
-// a first key whose header is not inside the section. The key is asked for first, although the span asks again where it reads, because the load of
-// its address, the first that may have to wait for memory, then goes on beside the tests of 24.
-pub fn scan_record(section: &[u8], numbers: &[u64; 16], first: u64) -> bool
-    ensures { λ r. ⌜ (r ≡ true → ScanRecord (now (section .entry)) (now (numbers .entry))) ⌝ }
+// Are these numbers a record that the section gives, plain and with a scan part, and is the key one of those that it counts? A no says nothing: it is
+// also the answer to other widths, and to a key whose header is not inside the section.
+pub fn is_scan_record(section: &[u8], numbers: &[u64; 16], first: u64) -> bool
+    ensures { λ r. ⌜ (r ≡ true → ScanRecord (now (section .entry)) (now (numbers .entry)) first) ⌝ }
 {
     if !header_inside(section, numbers, first) {
         return false;
@@ -101,12 +99,7 @@ pub fn scan_record(section: &[u8], numbers: &[u64; 16], first: u64) -> bool
         return false;
     }
     let n = numbers[2];
-    let behind = 37 + 4 * n;
-    let all = section.len() as u64;
-    if all < behind {
-        return false;
-    }
-    let scan = all - behind;
+    let scan = section.len() as u64 - (37 + 4 * n);
     let buckets = (n + 1) / 2;
     let arena = 64 + 4 * buckets + 6 * n;
     fields_match(section, numbers, buckets)

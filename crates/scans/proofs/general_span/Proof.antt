@@ -1,6 +1,5 @@
 use mathlib.Core.Path.{refl, sym, ap, _∙_}
 use lib.ListN.{length}
-use Rattle.header.specs.declared.Opened.{Opened}
 use Rattle.lookup.proofs.Tests.{said-yes, said-no}
 use Rattle.opened.specs.Opened.{isRecord}
 use Rattle.numbers.specs.Numbers.{openedOf}

@@ -13,8 +13,8 @@ use borrow.Author.Needs.{needs}
 use Rattle.scans.proofs.span.Statement.{statement}
 use Rattle.scans.proofs.span.Tie as tie
 
-scan-record-requires : tie.Need-scan-record-requires
-scan-record-requires c κs = search needs
+is-scan-record-requires : tie.Need-is-scan-record-requires
+is-scan-record-requires c κs = search needs
 
 general-span-requires : tie.Need-general-span-requires
 general-span-requires c κs = search needs
@@ -34,7 +34,7 @@ returns c =
 
 record-span-requires : tie.Need-record-span-requires
 record-span-requires c κs =
-    let r = c .before .before .before .scan-record .ensures (not-false _ (c .before .before .if1 .left)) in
+    let r = c .before .before .before .is-scan-record .ensures (not-false _ (c .before .before .if1 .left)) in
     (r .held, r .scans)
 
 answered-requires-2 : tie.Need-answered-requires-2
@@ -46,17 +46,17 @@ same-length-2 c = search needs
 returns-2 : tie.Need-returns-2
 returns-2 c =
     let a = c .before .before .before .before .before .before .before .before .before .before .before .args in
-    let r = c .before .before .before .before .before .before .before .before .scan-record .ensures (not-false _ (c .before .before .before .before .before .before .before .if1 .left)) in
+    let r = c .before .before .before .before .before .before .before .before .is-scan-record .ensures (not-false _ (c .before .before .before .before .before .before .before .if1 .left)) in
     let over = spanned-over (a .section .now) (a .numbers .now) (a .first) (a .count) (a .limit) (length (a .pairs .now)) (r .numbers) refl in
     let told = told-of over (a .pairs .now) (c .before .before .before .before .record-span .ensures) in
     let said = outcome _ (told .0) (a .found .now) (c .answered2 .ensures) in
     (said .0, told .1, said .1)
 
 one-key-requires : tie.Need-one-key-requires
-one-key-requires c κs = c .before .before .before .scan-record .ensures (not-false _ (c .before .before .if1 .left))
+one-key-requires c κs = c .before .before .before .is-scan-record .ensures (not-false _ (c .before .before .if1 .left))
 
-enum-known-read : tie.Need-enum-known-read
-enum-known-read c = search needs
+enum-known-written : tie.Need-enum-known-written
+enum-known-written c = search needs
 
 answered-requires-3 : tie.Need-answered-requires-3
 answered-requires-3 c κs = search needs
@@ -78,7 +78,7 @@ returns-3 c =
     let a = c .before .before .before .before .before .before .before .before .before .before .before .before .before .before .args in
     let one : a .count ≡ 1 = c .before .before .before .before .before .before .before .before .before .if2 .left in
     let e = ap (λ (n : ℕ). spanOfNumbers (a .section .now) (a .numbers .now) (a .first) n (a .limit) (length (a .pairs .now))) (sym one) in
-    let told = written-told _ (a .pairs .now) _ (c .before .before .before .before .before .before .before .one-key .ensures) (c .before .before .before .read .given .1) _ e in
+    let told = written-told _ (a .pairs .now) _ (c .before .before .before .before .before .before .before .one-key .ensures) (c .before .before .before .written .given .1) _ e in
     let said = outcome _ (told .0) (a .found .now) (c .answered3 .ensures) in
     (said .0, told .1, said .1)
 
@@ -100,7 +100,7 @@ pub span-spec : {M : Type 1} → statement M
 span-spec =
     tie.close
     (tie.spec
-    scan-record-requires
+    is-scan-record-requires
     general-span-requires
     answered-requires
     same-length
@@ -110,7 +110,7 @@ span-spec =
     same-length-2
     returns-2
     one-key-requires
-    enum-known-read
+    enum-known-written
     answered-requires-3
     enum-told
     general-span-requires-2

@@ -1,4 +1,4 @@
-use mathlib.Core.Path.{refl, ap, _∙_, subst⁻¹}
+use mathlib.Core.Path.{ap, _∙_, subst⁻¹}
 use native.Mathlib.Omega.{arith}
 use Rattle.header.specs.declared.Opened.{Opened}
 use Rattle.spans.specs.Span.{scanAddress, valuesFrom}
