@@ -20,14 +20,17 @@ use Rattle.spans.proofs.Values.{value-within, value-above, value-none, met-insi
 use Rattle.wholepairs.specs.declared.KeyWritten.the-variants.{Written}
 use Rattle.wholepairs.specs.Internal.{KeyPut}
 
-module _ (s : List ℕ) (o : Opened) (limit at : ℕ) {suffix : ℕ} (ex : suffix ≡ leAt s (o .arena + at + o .encoding .address + o .encoding .key) (o .encoding .key)) where
+module _ (s : List ℕ) (o : Opened) (limit at : ℕ) {suffix : ℕ} (ex : suffix ≡ leAt s (o .arena + at + (o .encoding .address + o .encoding .key)) (o .encoding .key)) where
+  suffix-is : suffix ≡ keyHeaderAt s (o .encoding) (o .arena + at) .«suffix_len»
+  unfolding keyHeaderAt
+  suffix-is = ex ∙ ap (λ (n : ℕ). leAt s n (o .encoding .key)) (omega arith)
+
   -- the suffix length has four bytes at most
   pub suffix-small : Bytes s → Widths (o .encoding) → suffix < 2 ^ 32
-  unfolding keyHeaderAt
-  suffix-small b w = subst⁻¹ (λ (n : ℕ). n < 2 ^ 32) ex (key-header-narrow s (o .encoding) (o .arena + at) b w .suffix)
+  suffix-small b w = subst⁻¹ (λ (n : ℕ). n < 2 ^ 32) suffix-is (key-header-narrow s (o .encoding) (o .arena + at) b w .suffix)
 
   module _ {header versions : ℕ} (eh : header ≡ keyHeaderLenOf (o .encoding))
-      (ev : versions ≡ leAt s (o .arena + at + o .encoding .address + o .encoding .key + o .encoding .key) (o .encoding .count)) (some : 0 < versions)
+      (ev : versions ≡ leAt s (o .arena + at + (o .encoding .address + o .encoding .key) + o .encoding .key) (o .encoding .count)) (some : 0 < versions)
       (room : o .arena + at + (header + suffix) + valueEnd (o .encoding) ≤ length s) where
     -- where its first version stands
     abbrev from : ℕ
@@ -37,10 +40,10 @@ module _ (s : List ℕ) (o : Opened) (limit at : ℕ) {suffix : ℕ} (ex : suffi
     versions-answer : valuesFrom 1 s o limit at ≡ firstWithin versions s o from limit
     unfolding keyHeaderAt
     versions-answer =
-        let place : o .arena + at + o .encoding .address + o .encoding .key + o .encoding .key ≡ o .arena + at + o .encoding .address + 2 * o .encoding .key = omega arith in
+        let place : o .arena + at + (o .encoding .address + o .encoding .key) + o .encoding .key ≡ o .arena + at + o .encoding .address + 2 * o .encoding .key = omega arith in
         let n : versions ≡ keyHeaderAt s (o .encoding) (o .arena + at) .versions = ev ∙ ap (λ (p : ℕ). leAt s p (o .encoding .count)) place in
         one-key s o limit at
-        ∙ sym (ap₂ (λ (k m : ℕ). firstWithin k s o (o .arena + at + (header + m)) limit) n ex ∙ key-versions s o limit at refl eh (omega arith))
+        ∙ sym (ap₂ (λ (k m : ℕ). firstWithin k s o (o .arena + at + (header + m)) limit) n suffix-is ∙ key-versions s o limit at refl eh (omega arith))
 
     module _ (sum : storedSeq s o from < 2 ^ 64) where
       -- within the limit that version's value is the answer

@@ -53,15 +53,20 @@ pub fn put_key(
 {
     let e = o.encoding;
     let pos = o.arena + address;
-    let lengths = pos + e.address + e.key;
-    if section.len() < lengths + e.key + 8 {
+    let lengths = e.address + e.key;
+    if section.len() < pos + lengths + e.key + 8 {
         return KeyWritten::Left;
     }
-    let versions = words::masked(section, lengths + e.key, e.count, words::mask(e.count));
+    let versions = words::masked(
+        section,
+        pos + lengths + e.key,
+        e.count,
+        words::mask(e.count),
+    );
     if versions == 0 {
         return KeyWritten::Left;
     }
-    let suffix_len = words::masked(section, lengths, e.key, words::mask(e.key)) as usize;
+    let suffix_len = words::masked(section, pos + lengths, e.key, words::mask(e.key)) as usize;
     let from = pos + (e.key_header() + suffix_len);
     if section.len() < from + e.seq + e.value + e.address + 8 {
         return KeyWritten::Left;

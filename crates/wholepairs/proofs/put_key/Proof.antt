@@ -17,25 +17,28 @@ add-pos : tie.Need-add-pos
 add-pos c = search needs
 
 add-lengths : tie.Need-add-lengths
-add-lengths c = search needs
-
-add-lengths-2 : tie.Need-add-lengths-2
-add-lengths-2 c =
-    let pre = c .before .before .before .before .before .before .pre in
-    let a = pre .0 .arena in
+add-lengths c =
+    let pre = c .before .before .before .before .before .pre in
     let w = widths-le _ (pre .0 .widths) in
     omega arith
 
 add-if1 : tie.Need-add-if1
 add-if1 c =
-    let pre = c .before .before .before .before .before .before .before .pre in
+    let pre = c .before .before .before .before .before .pre in
     let a = pre .0 .arena in
     let w = widths-le _ (pre .0 .widths) in
     omega arith
 
 add-if1-2 : tie.Need-add-if1-2
 add-if1-2 c =
-    let pre = c .before .before .before .before .before .before .before .pre in
+    let pre = c .before .before .before .before .before .before .pre in
+    let a = pre .0 .arena in
+    let w = widths-le _ (pre .0 .widths) in
+    omega arith
+
+add-if1-3 : tie.Need-add-if1-3
+add-if1-3 c =
+    let pre = c .before .before .before .before .before .before .pre in
     let a = pre .0 .arena in
     let w = widths-le _ (pre .0 .widths) in
     omega arith
@@ -47,30 +50,36 @@ returns c = refl
 add-masked : tie.Need-add-masked
 add-masked c = search needs
 
+add-masked-2 : tie.Need-add-masked-2
+add-masked-2 c = search needs
+
 mask-requires : tie.Need-mask-requires
 mask-requires c κs =
-    let pre = c .before .before .before .before .before .before .before .before .before .pre in
+    let pre = c .before .before .before .before .before .before .before .before .pre in
     widths-read _ (pre .0 .widths) .2
 
 masked-requires : tie.Need-masked-requires
 masked-requires c κs =
     let mask = c .mask in
-    let pre = c .before .before .before .before .before .before .before .before .before .before .pre in
+    let pre = c .before .before .before .before .before .before .before .before .before .pre in
     (search needs, (widths-read _ (pre .0 .widths) .2, mask .ensures))
 
 returns-2 : tie.Need-returns-2
 unfolding KeyPut
 returns-2 c = refl
 
+add-masked-3 : tie.Need-add-masked-3
+add-masked-3 c = search needs
+
 mask-requires-2 : tie.Need-mask-requires-2
 mask-requires-2 c κs =
-    let pre = c .before .before .before .before .before .before .before .before .before .before .before .before .pre in
+    let pre = c .before .before .before .before .before .before .before .before .before .before .before .pre in
     widths-read _ (pre .0 .widths) .1
 
 masked-requires-2 : tie.Need-masked-requires-2
 masked-requires-2 c κs =
     let mask2 = c .mask2 in
-    let pre = c .before .before .before .before .before .before .before .before .before .before .before .before .before .pre in
+    let pre = c .before .before .before .before .before .before .before .before .before .before .before .before .pre in
     (search needs, (widths-read _ (pre .0 .widths) .1, mask2 .ensures))
 
 key-header-requires : tie.Need-key-header-requires
@@ -81,9 +90,9 @@ unfolding keyHeaderLenOf
 add-from c =
     let key-header = c .key-header in
     let masked2 = c .before .masked2 in
-    let shared-slice-known = c .before .before .before .before .before .before .before .before .before .before .before .before .before .before .shared-slice-known in
-    let args = c .before .before .before .before .before .before .before .before .before .before .before .before .before .before .before .args in
-    let pre = c .before .before .before .before .before .before .before .before .before .before .before .before .before .before .before .pre in
+    let shared-slice-known = c .before .before .before .before .before .before .before .before .before .before .before .before .before .shared-slice-known in
+    let args = c .before .before .before .before .before .before .before .before .before .before .before .before .before .before .args in
+    let pre = c .before .before .before .before .before .before .before .before .before .before .before .before .before .before .pre in
     let x = suffix-small (args .section .now) (args .o) (args .limit) (args .address) (masked2 .ensures) (λ n. shared-slice-known .given n .fits)
     (pre .0 .widths) in
     let a = pre .0 .arena in
@@ -96,9 +105,9 @@ unfolding keyHeaderLenOf
 add-from-2 c =
     let key-header = c .key-header in
     let masked2 = c .before .masked2 in
-    let shared-slice-known = c .before .before .before .before .before .before .before .before .before .before .before .before .before .before .shared-slice-known in
-    let args = c .before .before .before .before .before .before .before .before .before .before .before .before .before .before .before .args in
-    let pre = c .before .before .before .before .before .before .before .before .before .before .before .before .before .before .before .pre in
+    let shared-slice-known = c .before .before .before .before .before .before .before .before .before .before .before .before .before .shared-slice-known in
+    let args = c .before .before .before .before .before .before .before .before .before .before .before .before .before .before .args in
+    let pre = c .before .before .before .before .before .before .before .before .before .before .before .before .before .before .pre in
     let x = suffix-small (args .section .now) (args .o) (args .limit) (args .address) (masked2 .ensures) (λ n. shared-slice-known .given n .fits)
     (pre .0 .widths) in
     let a = pre .0 .arena in
@@ -111,9 +120,9 @@ unfolding keyHeaderLenOf
 add-if3 c =
     let key-header = c .before .key-header in
     let masked2 = c .before .before .masked2 in
-    let shared-slice-known = c .before .before .before .before .before .before .before .before .before .before .before .before .before .before .before .shared-slice-known in
-    let args = c .before .before .before .before .before .before .before .before .before .before .before .before .before .before .before .before .args in
-    let pre = c .before .before .before .before .before .before .before .before .before .before .before .before .before .before .before .before .pre in
+    let shared-slice-known = c .before .before .before .before .before .before .before .before .before .before .before .before .before .before .shared-slice-known in
+    let args = c .before .before .before .before .before .before .before .before .before .before .before .before .before .before .before .args in
+    let pre = c .before .before .before .before .before .before .before .before .before .before .before .before .before .before .before .pre in
     let x = suffix-small (args .section .now) (args .o) (args .limit) (args .address) (masked2 .ensures) (λ n. shared-slice-known .given n .fits)
     (pre .0 .widths) in
     let a = pre .0 .arena in
@@ -126,9 +135,9 @@ unfolding keyHeaderLenOf
 add-if3-2 c =
     let key-header = c .before .before .key-header in
     let masked2 = c .before .before .before .masked2 in
-    let shared-slice-known = c .before .before .before .before .before .before .before .before .before .before .before .before .before .before .before .before .shared-slice-known in
-    let args = c .before .before .before .before .before .before .before .before .before .before .before .before .before .before .before .before .before .args in
-    let pre = c .before .before .before .before .before .before .before .before .before .before .before .before .before .before .before .before .before .pre in
+    let shared-slice-known = c .before .before .before .before .before .before .before .before .before .before .before .before .before .before .before .shared-slice-known in
+    let args = c .before .before .before .before .before .before .before .before .before .before .before .before .before .before .before .before .args in
+    let pre = c .before .before .before .before .before .before .before .before .before .before .before .before .before .before .before .before .pre in
     let x = suffix-small (args .section .now) (args .o) (args .limit) (args .address) (masked2 .ensures) (λ n. shared-slice-known .given n .fits)
     (pre .0 .widths) in
     let a = pre .0 .arena in
@@ -141,9 +150,9 @@ unfolding keyHeaderLenOf
 add-if3-3 c =
     let key-header = c .before .before .before .key-header in
     let masked2 = c .before .before .before .before .masked2 in
-    let shared-slice-known = c .before .before .before .before .before .before .before .before .before .before .before .before .before .before .before .before .before .shared-slice-known in
-    let args = c .before .before .before .before .before .before .before .before .before .before .before .before .before .before .before .before .before .before .args in
-    let pre = c .before .before .before .before .before .before .before .before .before .before .before .before .before .before .before .before .before .before .pre in
+    let shared-slice-known = c .before .before .before .before .before .before .before .before .before .before .before .before .before .before .before .before .shared-slice-known in
+    let args = c .before .before .before .before .before .before .before .before .before .before .before .before .before .before .before .before .before .args in
+    let pre = c .before .before .before .before .before .before .before .before .before .before .before .before .before .before .before .before .before .pre in
     let x = suffix-small (args .section .now) (args .o) (args .limit) (args .address) (masked2 .ensures) (λ n. shared-slice-known .given n .fits)
     (pre .0 .widths) in
     let a = pre .0 .arena in
@@ -156,9 +165,9 @@ unfolding keyHeaderLenOf
 add-if3-4 c =
     let key-header = c .before .before .before .key-header in
     let masked2 = c .before .before .before .before .masked2 in
-    let shared-slice-known = c .before .before .before .before .before .before .before .before .before .before .before .before .before .before .before .before .before .shared-slice-known in
-    let args = c .before .before .before .before .before .before .before .before .before .before .before .before .before .before .before .before .before .before .args in
-    let pre = c .before .before .before .before .before .before .before .before .before .before .before .before .before .before .before .before .before .before .pre in
+    let shared-slice-known = c .before .before .before .before .before .before .before .before .before .before .before .before .before .before .before .before .shared-slice-known in
+    let args = c .before .before .before .before .before .before .before .before .before .before .before .before .before .before .before .before .before .args in
+    let pre = c .before .before .before .before .before .before .before .before .before .before .before .before .before .before .before .before .before .pre in
     let x = suffix-small (args .section .now) (args .o) (args .limit) (args .address) (masked2 .ensures) (λ n. shared-slice-known .given n .fits)
     (pre .0 .widths) in
     let a = pre .0 .arena in
@@ -172,13 +181,13 @@ returns-3 c = refl
 
 mask-requires-3 : tie.Need-mask-requires-3
 mask-requires-3 c κs =
-    let pre = c .before .before .before .before .before .before .before .before .before .before .before .before .before .before .before .before .before .before .before .pre in
+    let pre = c .before .before .before .before .before .before .before .before .before .before .before .before .before .before .before .before .before .before .pre in
     widths-read _ (pre .0 .widths) .3
 
 masked-requires-3 : tie.Need-masked-requires-3
 masked-requires-3 c κs =
     let mask3 = c .mask3 in
-    let pre = c .before .before .before .before .before .before .before .before .before .before .before .before .before .before .before .before .before .before .before .before .pre in
+    let pre = c .before .before .before .before .before .before .before .before .before .before .before .before .before .before .before .before .before .before .before .pre in
     (search needs, (widths-read _ (pre .0 .widths) .3, mask3 .ensures))
 
 sub-if4 : tie.Need-sub-if4
@@ -199,7 +208,7 @@ returns-5 c =
     let masked2 = c .before .before .before .before .before .before .before .before .before .before .before .before .masked2 in
     let if2 = c .before .before .before .before .before .before .before .before .before .before .before .before .before .before .if2 in
     let masked = c .before .before .before .before .before .before .before .before .before .before .before .before .before .before .before .masked in
-    let args = c .before .before .before .before .before .before .before .before .before .before .before .before .before .before .before .before .before .before .before .before .before .before .before .before .before .before .args in
+    let args = c .before .before .before .before .before .before .before .before .before .before .before .before .before .before .before .before .before .before .before .before .before .before .before .before .before .args in
     let from = args .o .arena + args .address + (key-header .result + masked2 .result) in
     let e = stored-sum (args .section .now) (args .o) from (masked3 .ensures) in
     let v = first-above (args .section .now) (args .o) (args .limit) (args .address) (masked2 .ensures) (key-header .ensures) (masked .ensures) (omega (arith, if2 .left))
@@ -213,7 +222,7 @@ returns-6 c = refl
 put-version-requires : tie.Need-put-version-requires
 unfolding valueEnd
 put-version-requires c κs =
-    let pre = c .before .before .before .before .before .before .before .before .before .before .before .before .before .before .before .before .before .before .before .before .before .before .before .before .before .before .pre in
+    let pre = c .before .before .before .before .before .before .before .before .before .before .before .before .before .before .before .before .before .before .before .before .before .before .before .before .before .pre in
     (pre .0, (search needs, search needs))
 
 same-length : tie.Need-same-length
@@ -228,7 +237,7 @@ returns-7 c =
     let masked2 = c .before .before .before .before .before .before .before .before .before .before .before .before .before .before .before .masked2 in
     let if2 = c .before .before .before .before .before .before .before .before .before .before .before .before .before .before .before .before .before .if2 in
     let masked = c .before .before .before .before .before .before .before .before .before .before .before .before .before .before .before .before .before .before .masked in
-    let args = c .before .before .before .before .before .before .before .before .before .before .before .before .before .before .before .before .before .before .before .before .before .before .before .before .before .before .before .before .before .args in
+    let args = c .before .before .before .before .before .before .before .before .before .before .before .before .before .before .before .before .before .before .before .before .before .before .before .before .before .before .before .before .args in
     let from = args .o .arena + args .address + (key-header .result + masked2 .result) in
     let e = stored-sum (args .section .now) (args .o) from (masked3 .ensures) in
     let v = first-within (args .section .now) (args .o) (args .limit) (args .address) (masked2 .ensures) (key-header .ensures) (masked .ensures) (omega (arith, if2 .left))
@@ -241,14 +250,16 @@ put-key-spec =
     (tie.spec
     add-pos
     add-lengths
-    add-lengths-2
     add-if1
     add-if1-2
+    add-if1-3
     returns
     add-masked
+    add-masked-2
     mask-requires
     masked-requires
     returns-2
+    add-masked-3
     mask-requires-2
     masked-requires-2
     key-header-requires
