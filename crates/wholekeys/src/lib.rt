@@ -15,7 +15,7 @@ fn sums_fit(o: Opened) -> bool
     (o.encoding.seq <= 4) & (o.min_seq < 0x8000_0000_0000_0000)
 }
 
-// Are the records of some keys whole, one behind the other, as their scan addresses say? Sums that might pass 2^64 are left to the general path.
+// Are the records of some keys whole, one behind the other, as their scan addresses say? Sums that might pass 2^64 are left to the walk from record to record.
 pub fn keys_whole(section: &[u8], o: Opened, first: u64, count: u64) -> bool
     requires { ⌜ Spannable o ⌝ }
     requires { ⌜ o .scan + 24 + 4 * (first + count) + 4 ≤ length (now section) ⌝ }

@@ -1,4 +1,4 @@
-// Spans over keys whose records are whole: each key is read at its scan address, and its value is written as a pair of offset and length.
+// Values of keys as pairs of offset and length, read by words of eight bytes: of one key by its first version, and of keys whose records are whole, each at its scan address.
 ghost use mathlib.Core.Path.{_≡_};
 ghost use Prim.Native.Nat.{ℕ, _+_, _*_, _^_, _<_, _≤_};
 ghost use lib.ListN.{length};
@@ -31,14 +31,14 @@ fn put_version(section: &[u8], o: Opened, pos: usize, pairs: &mut [u64], to: usi
     to + 2
 }
 
-// What became of a key: so many pairs of it were written, or it is left to the general path.
+// What became of a key: so many pairs of it were written, or nothing was and its caller reads it another way.
 pub enum KeyWritten {
     Written(u64),
     Left,
 }
 
-// Writes the value of the key whose record stands at an address, if its first version is within the limit or its only one. What has too few
-// bytes behind it, or a sum beyond 64 bits, is left.
+// Writes the value of the key whose record stands at an address, if its first version is within the limit or its only one. A key of no versions,
+// too few bytes behind what is read, and a sum beyond 64 bits are left.
 pub fn put_key(
     section: &[u8],
     o: Opened,
