@@ -8,34 +8,41 @@ use lib.ListN.{length}
 use lib.Seq.{sets}
 use Rattle.num.specs.Answer.{Answer, given}
 use Rattle.num.specs.Number.{Bytes, leAt}
-use Rattle.encoding.specs.Encoding.{Widths, keyHeaderLenOf, versionLenOf}
+use Rattle.encoding.specs.Encoding.{keyHeaderLenOf, versionLenOf}
+use Rattle.encoding.proofs.Widths.{widths-le}
 use Rattle.header.specs.declared.Opened.{Opened}
 use Rattle.arena.specs.Key.{keyHeaderAt}
 use Rattle.arena.proofs.Reading.{key-header-narrow}
 use Rattle.versions.specs.Version.{storedSeq}
 use Rattle.spans.specs.declared.Spanned.the-variants.{Pairs}
 use Rattle.spans.specs.Span.{Pair, valueEnd, valueAt, firstWithin, valuesFrom, pairNumbers, pairsWritten, spannedRead}
+use Rattle.spans.specs.Internal.{Spannable}
 use Rattle.spans.proofs.Keys.{one-key, key-versions}
 use Rattle.spans.proofs.Values.{value-within, value-above, value-none, met-inside}
 use Rattle.wholepairs.specs.declared.KeyWritten.the-variants.{Written}
 use Rattle.wholepairs.specs.Internal.{KeyPut}
 
-module _ (s : List ℕ) (o : Opened) (limit at : ℕ) {suffix : ℕ} (ex : suffix ≡ leAt s (o .arena + at + (o .encoding .address + o .encoding .key)) (o .encoding .key)) where
+module _ (s : List ℕ) (o : Opened) (limit at : ℕ) {header suffix versions : ℕ} (eh : header ≡ keyHeaderLenOf (o .encoding))
+    (ex : suffix ≡ leAt s (o .arena + at + (o .encoding .address + o .encoding .key)) (o .encoding .key))
+    (ev : versions ≡ leAt s (o .arena + at + (o .encoding .address + o .encoding .key) + o .encoding .key) (o .encoding .count)) where
   suffix-is : suffix ≡ keyHeaderAt s (o .encoding) (o .arena + at) .«suffix_len»
   unfolding keyHeaderAt
   suffix-is = ex ∙ ap (λ (n : ℕ). leAt s n (o .encoding .key)) (omega arith)
 
-  -- the suffix length has four bytes at most
-  pub suffix-small : Bytes s → Widths (o .encoding) → suffix < 2 ^ 32
-  suffix-small b w = subst⁻¹ (λ (n : ℕ). n < 2 ^ 32) suffix-is (key-header-narrow s (o .encoding) (o .arena + at) b w .suffix)
+  -- where its first version stands
+  abbrev from : ℕ
+  from = o .arena + at + (header + suffix)
 
-  module _ {header versions : ℕ} (eh : header ≡ keyHeaderLenOf (o .encoding))
-      (ev : versions ≡ leAt s (o .arena + at + (o .encoding .address + o .encoding .key) + o .encoding .key) (o .encoding .count)) (some : 0 < versions)
-      (room : o .arena + at + (header + suffix) + valueEnd (o .encoding) ≤ length s) where
-    -- where its first version stands
-    abbrev from : ℕ
-    from = o .arena + at + (header + suffix)
+  -- what is read of that version ends below 2^37
+  pub version-small : Bytes s → Spannable o → at < 2 ^ 32 → from + valueEnd (o .encoding) + 8 < 2 ^ 37
+  unfolding keyHeaderLenOf valueEnd
+  version-small b p l =
+      let w = widths-le (o .encoding) (p .widths) in
+      let a = p .arena in
+      let x = subst⁻¹ (λ (n : ℕ). n < 2 ^ 32) suffix-is (key-header-narrow s (o .encoding) (o .arena + at) b (p .widths) .suffix) in
+      omega arith
 
+  module _ (some : 0 < versions) (room : from + valueEnd (o .encoding) ≤ length s) where
     -- the key's answer is that of its versions
     versions-answer : valuesFrom 1 s o limit at ≡ firstWithin versions s o from limit
     unfolding keyHeaderAt

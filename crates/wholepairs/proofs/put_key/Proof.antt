@@ -2,13 +2,12 @@ use mathlib.Core.Path.{refl}
 use mathlib.Core.List.{[]}
 use Prim.Native.Nat.{_+_}
 use native.Mathlib.Omega.{arith}
-use Rattle.encoding.specs.Encoding.{keyHeaderLenOf}
 use Rattle.encoding.proofs.Widths.{widths-le}
 use Rattle.arena.proofs.Reading.{widths-read}
 use Rattle.locator.proofs.Versions.{stored-sum}
 use Rattle.spans.specs.Span.{valueEnd, pairNumbers}
 use Rattle.wholepairs.specs.Internal.{KeyPut}
-use Rattle.wholepairs.proofs.First.{suffix-small, first-within, first-above, put-told}
+use Rattle.wholepairs.proofs.First.{version-small, first-within, first-above, put-told}
 use borrow.Author.Needs.{needs}
 use Rattle.wholepairs.proofs.put_key.Statement.{statement}
 use Rattle.wholepairs.proofs.put_key.Tie as tie
@@ -86,94 +85,68 @@ key-header-requires : tie.Need-key-header-requires
 key-header-requires c κs = search needs
 
 add-from : tie.Need-add-from
-unfolding keyHeaderLenOf
 add-from c =
     let key-header = c .key-header in
     let masked2 = c .before .masked2 in
+    let masked = c .before .before .before .before .masked in
     let shared-slice-known = c .before .before .before .before .before .before .before .before .before .before .before .before .before .shared-slice-known in
     let args = c .before .before .before .before .before .before .before .before .before .before .before .before .before .before .args in
     let pre = c .before .before .before .before .before .before .before .before .before .before .before .before .before .before .pre in
-    let x = suffix-small (args .section .now) (args .o) (args .limit) (args .address) (masked2 .ensures) (λ n. shared-slice-known .given n .fits)
-    (pre .0 .widths) in
-    let a = pre .0 .arena in
-    let w = widths-le _ (pre .0 .widths) in
-    let h = key-header .ensures in
-    omega arith
+    omega (arith, version-small (args .section .now) (args .o) (args .limit) (args .address) (key-header .ensures) (masked2 .ensures) (masked .ensures) (λ n. shared-slice-known .given n .fits) (pre .0) (pre .1 .0))
 
 add-from-2 : tie.Need-add-from-2
-unfolding keyHeaderLenOf
 add-from-2 c =
     let key-header = c .key-header in
     let masked2 = c .before .masked2 in
+    let masked = c .before .before .before .before .masked in
     let shared-slice-known = c .before .before .before .before .before .before .before .before .before .before .before .before .before .shared-slice-known in
     let args = c .before .before .before .before .before .before .before .before .before .before .before .before .before .before .args in
     let pre = c .before .before .before .before .before .before .before .before .before .before .before .before .before .before .pre in
-    let x = suffix-small (args .section .now) (args .o) (args .limit) (args .address) (masked2 .ensures) (λ n. shared-slice-known .given n .fits)
-    (pre .0 .widths) in
-    let a = pre .0 .arena in
-    let w = widths-le _ (pre .0 .widths) in
-    let h = key-header .ensures in
-    omega arith
+    omega (arith, version-small (args .section .now) (args .o) (args .limit) (args .address) (key-header .ensures) (masked2 .ensures) (masked .ensures) (λ n. shared-slice-known .given n .fits) (pre .0) (pre .1 .0))
 
 add-if3 : tie.Need-add-if3
-unfolding keyHeaderLenOf
+unfolding valueEnd
 add-if3 c =
     let key-header = c .before .key-header in
     let masked2 = c .before .before .masked2 in
+    let masked = c .before .before .before .before .before .masked in
     let shared-slice-known = c .before .before .before .before .before .before .before .before .before .before .before .before .before .before .shared-slice-known in
     let args = c .before .before .before .before .before .before .before .before .before .before .before .before .before .before .before .args in
     let pre = c .before .before .before .before .before .before .before .before .before .before .before .before .before .before .before .pre in
-    let x = suffix-small (args .section .now) (args .o) (args .limit) (args .address) (masked2 .ensures) (λ n. shared-slice-known .given n .fits)
-    (pre .0 .widths) in
-    let a = pre .0 .arena in
-    let w = widths-le _ (pre .0 .widths) in
-    let h = key-header .ensures in
-    omega arith
+    omega (arith, version-small (args .section .now) (args .o) (args .limit) (args .address) (key-header .ensures) (masked2 .ensures) (masked .ensures) (λ n. shared-slice-known .given n .fits) (pre .0) (pre .1 .0))
 
 add-if3-2 : tie.Need-add-if3-2
-unfolding keyHeaderLenOf
+unfolding valueEnd
 add-if3-2 c =
     let key-header = c .before .before .key-header in
     let masked2 = c .before .before .before .masked2 in
+    let masked = c .before .before .before .before .before .before .masked in
     let shared-slice-known = c .before .before .before .before .before .before .before .before .before .before .before .before .before .before .before .shared-slice-known in
     let args = c .before .before .before .before .before .before .before .before .before .before .before .before .before .before .before .before .args in
     let pre = c .before .before .before .before .before .before .before .before .before .before .before .before .before .before .before .before .pre in
-    let x = suffix-small (args .section .now) (args .o) (args .limit) (args .address) (masked2 .ensures) (λ n. shared-slice-known .given n .fits)
-    (pre .0 .widths) in
-    let a = pre .0 .arena in
-    let w = widths-le _ (pre .0 .widths) in
-    let h = key-header .ensures in
-    omega arith
+    omega (arith, version-small (args .section .now) (args .o) (args .limit) (args .address) (key-header .ensures) (masked2 .ensures) (masked .ensures) (λ n. shared-slice-known .given n .fits) (pre .0) (pre .1 .0))
 
 add-if3-3 : tie.Need-add-if3-3
-unfolding keyHeaderLenOf
+unfolding valueEnd
 add-if3-3 c =
     let key-header = c .before .before .before .key-header in
     let masked2 = c .before .before .before .before .masked2 in
+    let masked = c .before .before .before .before .before .before .before .masked in
     let shared-slice-known = c .before .before .before .before .before .before .before .before .before .before .before .before .before .before .before .before .shared-slice-known in
     let args = c .before .before .before .before .before .before .before .before .before .before .before .before .before .before .before .before .before .args in
     let pre = c .before .before .before .before .before .before .before .before .before .before .before .before .before .before .before .before .before .pre in
-    let x = suffix-small (args .section .now) (args .o) (args .limit) (args .address) (masked2 .ensures) (λ n. shared-slice-known .given n .fits)
-    (pre .0 .widths) in
-    let a = pre .0 .arena in
-    let w = widths-le _ (pre .0 .widths) in
-    let h = key-header .ensures in
-    omega arith
+    omega (arith, version-small (args .section .now) (args .o) (args .limit) (args .address) (key-header .ensures) (masked2 .ensures) (masked .ensures) (λ n. shared-slice-known .given n .fits) (pre .0) (pre .1 .0))
 
 add-if3-4 : tie.Need-add-if3-4
-unfolding keyHeaderLenOf
+unfolding valueEnd
 add-if3-4 c =
     let key-header = c .before .before .before .key-header in
     let masked2 = c .before .before .before .before .masked2 in
+    let masked = c .before .before .before .before .before .before .before .masked in
     let shared-slice-known = c .before .before .before .before .before .before .before .before .before .before .before .before .before .before .before .before .shared-slice-known in
     let args = c .before .before .before .before .before .before .before .before .before .before .before .before .before .before .before .before .before .args in
     let pre = c .before .before .before .before .before .before .before .before .before .before .before .before .before .before .before .before .before .pre in
-    let x = suffix-small (args .section .now) (args .o) (args .limit) (args .address) (masked2 .ensures) (λ n. shared-slice-known .given n .fits)
-    (pre .0 .widths) in
-    let a = pre .0 .arena in
-    let w = widths-le _ (pre .0 .widths) in
-    let h = key-header .ensures in
-    omega arith
+    omega (arith, version-small (args .section .now) (args .o) (args .limit) (args .address) (key-header .ensures) (masked2 .ensures) (masked .ensures) (λ n. shared-slice-known .given n .fits) (pre .0) (pre .1 .0))
 
 returns-3 : tie.Need-returns-3
 unfolding KeyPut
@@ -211,7 +184,7 @@ returns-5 c =
     let args = c .before .before .before .before .before .before .before .before .before .before .before .before .before .before .before .before .before .before .before .before .before .before .before .before .before .args in
     let from = args .o .arena + args .address + (key-header .result + masked2 .result) in
     let e = stored-sum (args .section .now) (args .o) from (masked3 .ensures) in
-    let v = first-above (args .section .now) (args .o) (args .limit) (args .address) (masked2 .ensures) (key-header .ensures) (masked .ensures) (omega (arith, if2 .left))
+    let v = first-above (args .section .now) (args .o) (args .limit) (args .address) (key-header .ensures) (masked2 .ensures) (masked .ensures) (omega (arith, if2 .left))
     (search needs) (omega arith) (omega arith) (omega (arith, c .if6 .taken)) in
     put-told _ [] (args .pairs .now) v refl refl
 
@@ -240,7 +213,7 @@ returns-7 c =
     let args = c .before .before .before .before .before .before .before .before .before .before .before .before .before .before .before .before .before .before .before .before .before .before .before .before .before .before .before .before .args in
     let from = args .o .arena + args .address + (key-header .result + masked2 .result) in
     let e = stored-sum (args .section .now) (args .o) from (masked3 .ensures) in
-    let v = first-within (args .section .now) (args .o) (args .limit) (args .address) (masked2 .ensures) (key-header .ensures) (masked .ensures) (omega (arith, if2 .left))
+    let v = first-within (args .section .now) (args .o) (args .limit) (args .address) (key-header .ensures) (masked2 .ensures) (masked .ensures) (omega (arith, if2 .left))
     (search needs) (omega arith) (omega arith) in
     put-told _ _ (args .pairs .now) v (omega (arith, put-version .ensures .0)) (put-version .ensures .1)
 
