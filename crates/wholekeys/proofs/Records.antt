@@ -58,10 +58,17 @@ module _ (s : List ℕ) (o : Opened) (limit at : ℕ) {header size suffix versio
       let m : size ≤ 24 = omega (arith, version-le (o .encoding) w) in
       (omega arith, l, mul-le-mul (le-of-lt l) m)
 
-  -- the value of the key, and of the keys behind it
+  -- the value of the key
   abbrev found : Answer (List Pair)
   found = firstWithin versions s o (o .arena + at + (header + suffix)) limit
 
+  -- where its header is inside, that is the answer of the key
+  pub found-is : o .arena + at + header ≤ length s → found ≡ keys.key s o limit at
+  found-is l =
+      ap₂ (λ (k m : ℕ). firstWithin k s o (o .arena + at + (header + m)) limit) versions-is suffix-is
+      ∙ keys.key-versions s o limit at refl eh l
+
+  -- the values of the keys behind it
   abbrev rest : ℕ → Answer (List Pair)
   rest n = valuesFrom (n - 1) s o limit ((at + (header + suffix) + versions * size) % 2 ^ 32)
 
@@ -69,14 +76,12 @@ module _ (s : List ℕ) (o : Opened) (limit at : ℕ) {header size suffix versio
   rest-is n = ap (λ (a : ℕ). valuesFrom (n - 1) s o limit a) next-is
 
   module _ (n : ℕ) (h : 0 < n) (e : isGiven (valuesFrom n s o limit at) ≡ true) where
-    found-is : found ≡ keys.key s o limit at
-    found-is =
-        ap₂ (λ (k m : ℕ). firstWithin k s o (o .arena + at + (header + m)) limit) versions-is suffix-is
-        ∙ keys.key-versions s o limit at refl eh (let l = keys.key-inside s o limit at (keys.key-given s o limit at n h e .0) in omega arith)
+    found-given : found ≡ keys.key s o limit at
+    found-given = let l = keys.key-inside s o limit at (keys.key-given s o limit at n h e .0) in found-is (omega arith)
 
     -- where nothing is refused, neither this key nor the others are
     pub key-given : (isGiven found ≡ true) × (isGiven (rest n) ≡ true)
-    key-given = let g = keys.key-given s o limit at n h e in (ap isGiven found-is ∙ g .0, ap isGiven (rest-is n) ∙ g .1)
+    key-given = let g = keys.key-given s o limit at n h e in (ap isGiven found-given ∙ g .0, ap isGiven (rest-is n) ∙ g .1)
 
     -- once its pair is stored, the pairs of the others are to be stored behind it
     pub key-stored : (l : List ℕ) (to : ℕ) {m : List ℕ} {next : ℕ} → next ≡ to + 2 * length (pairsOf found) → m ≡ sets l to (pairNumbers (pairsOf found))
@@ -84,6 +89,6 @@ module _ (s : List ℕ) (o : Opened) (limit at : ℕ) {header size suffix versio
         × (sets m next (pairNumbers (pairsOf (rest n))) ≡ sets l to (pairNumbers (pairsOf (valuesFrom n s o limit at))))
     key-stored l to {m} {next} en em =
         let k = keys.key-stored s o limit at n h e l to
-        (en ∙ ap (λ (a : Answer (List Pair)). to + 2 * length (pairsOf a)) found-is)
-        (em ∙ ap (λ (a : Answer (List Pair)). sets l to (pairNumbers (pairsOf a))) found-is) in
+        (en ∙ ap (λ (a : Answer (List Pair)). to + 2 * length (pairsOf a)) found-given)
+        (em ∙ ap (λ (a : Answer (List Pair)). sets l to (pairNumbers (pairsOf a))) found-given) in
         (k .0, k .1, ap (λ (a : Answer (List Pair)). next + 2 * length (pairsOf a)) (rest-is n) ∙ k .2, ap (λ (a : Answer (List Pair)). sets m next (pairNumbers (pairsOf a))) (rest-is n) ∙ k .3)

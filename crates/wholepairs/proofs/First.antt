@@ -1,6 +1,6 @@
 -- A key whose first version decides, by the numbers that code reads of its record, each at its place.
 -- Assumes nothing.
-use mathlib.Core.Path.{_≡_, refl, sym, ap, ap₂, _∙_, subst⁻¹}
+use mathlib.Core.Path.{_≡_, refl, sym, ap, _∙_}
 use mathlib.Core.List.{List, []}
 use Prim.Native.Nat.{ℕ, _+_, _*_, _-_, _^_, _<_, _≤_}
 use native.Mathlib.Omega.{arith}
@@ -11,24 +11,19 @@ use Rattle.num.specs.Number.{Bytes, leAt}
 use Rattle.encoding.specs.Encoding.{keyHeaderLenOf, versionLenOf}
 use Rattle.encoding.proofs.Widths.{widths-le}
 use Rattle.header.specs.declared.Opened.{Opened}
-use Rattle.arena.specs.Key.{keyHeaderAt}
-use Rattle.arena.proofs.Reading.{key-header-narrow}
 use Rattle.versions.specs.Version.{storedSeq}
 use Rattle.spans.specs.declared.Spanned.the-variants.{Pairs}
 use Rattle.spans.specs.Span.{Pair, valueEnd, valueAt, firstWithin, valuesFrom, pairNumbers, pairsWritten, spannedRead}
 use Rattle.spans.specs.Internal.{Spannable}
-use Rattle.spans.proofs.Keys.{one-key, key-versions}
+use Rattle.spans.proofs.Keys.{one-key}
 use Rattle.spans.proofs.Values.{value-within, value-above, value-none, met-inside}
+use Rattle.wholekeys.proofs.Records.{record-bounds, found-is}
 use Rattle.wholepairs.specs.declared.KeyWritten.the-variants.{Written}
 use Rattle.wholepairs.specs.Internal.{KeyPut}
 
 module _ (s : List ℕ) (o : Opened) (limit at : ℕ) {header suffix versions : ℕ} (eh : header ≡ keyHeaderLenOf (o .encoding))
     (ex : suffix ≡ leAt s (o .arena + at + (o .encoding .address + o .encoding .key)) (o .encoding .key))
     (ev : versions ≡ leAt s (o .arena + at + (o .encoding .address + o .encoding .key) + o .encoding .key) (o .encoding .count)) where
-  suffix-is : suffix ≡ keyHeaderAt s (o .encoding) (o .arena + at) .«suffix_len»
-  unfolding keyHeaderAt
-  suffix-is = ex ∙ ap (λ (n : ℕ). leAt s n (o .encoding .key)) (omega arith)
-
   -- where its first version stands
   abbrev from : ℕ
   from = o .arena + at + (header + suffix)
@@ -39,18 +34,13 @@ module _ (s : List ℕ) (o : Opened) (limit at : ℕ) {header suffix versions : 
   version-small b p l =
       let w = widths-le (o .encoding) (p .widths) in
       let a = p .arena in
-      let x = subst⁻¹ (λ (n : ℕ). n < 2 ^ 32) suffix-is (key-header-narrow s (o .encoding) (o .arena + at) b (p .widths) .suffix) in
+      let x = record-bounds s o limit at eh refl ex ev b (p .widths) .0 in
       omega arith
 
   module _ (some : 0 < versions) (room : from + valueEnd (o .encoding) ≤ length s) where
     -- the key's answer is that of its versions
     versions-answer : valuesFrom 1 s o limit at ≡ firstWithin versions s o from limit
-    unfolding keyHeaderAt
-    versions-answer =
-        let place : o .arena + at + (o .encoding .address + o .encoding .key) + o .encoding .key ≡ o .arena + at + o .encoding .address + 2 * o .encoding .key = omega arith in
-        let n : versions ≡ keyHeaderAt s (o .encoding) (o .arena + at) .versions = ev ∙ ap (λ (p : ℕ). leAt s p (o .encoding .count)) place in
-        one-key s o limit at
-        ∙ sym (ap₂ (λ (k m : ℕ). firstWithin k s o (o .arena + at + (header + m)) limit) n suffix-is ∙ key-versions s o limit at refl eh (omega arith))
+    versions-answer = one-key s o limit at ∙ sym (found-is s o limit at eh refl ex ev (omega arith))
 
     module _ (sum : storedSeq s o from < 2 ^ 64) where
       -- within the limit that version's value is the answer
