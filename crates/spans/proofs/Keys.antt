@@ -239,12 +239,13 @@ module _ (s : List ℕ) (o : Opened) (limit at : ℕ) where
 -- ---- the answers
 
 module _ (a : Answer (List Pair)) (l : List ℕ) where
-  pub refused-told : a ≡ refused 25 → (Refused 25 ≡ spannedRead a) × (l ≡ pairsWritten a l)
+  pub refused-told : {n : ℕ} → a ≡ refused n → (Refused n ≡ spannedRead a) × (l ≡ pairsWritten a l)
   unfolding spannedRead pairsWritten
   refused-told e = (sym (ap spannedRead e), sym (ap (λ (x : Answer (List Pair)). pairsWritten x l) e))
 
-  pub given-told : isGiven a ≡ true → {n : ℕ} {m : List ℕ} → n ≡ length (pairsOf a) → m ≡ sets l 0 (pairNumbers (pairsOf a)) → (Pairs n ≡ spannedRead a) × (m ≡ pairsWritten a l)
+  pub pairs-told : {ps : List Pair} → a ≡ given ps → {n : ℕ} {m : List ℕ} → n ≡ length ps → m ≡ sets l 0 (pairNumbers ps) → (Pairs n ≡ spannedRead a) × (m ≡ pairsWritten a l)
   unfolding spannedRead pairsWritten
-  given-told t en em =
-      let g = given-pairs a t in
-      (ap Pairs en ∙ sym (ap spannedRead g), em ∙ sym (ap (λ (x : Answer (List Pair)). pairsWritten x l) g))
+  pairs-told e en em = (ap Pairs en ∙ sym (ap spannedRead e), em ∙ sym (ap (λ (x : Answer (List Pair)). pairsWritten x l) e))
+
+  pub given-told : isGiven a ≡ true → {n : ℕ} {m : List ℕ} → n ≡ length (pairsOf a) → m ≡ sets l 0 (pairNumbers (pairsOf a)) → (Pairs n ≡ spannedRead a) × (m ≡ pairsWritten a l)
+  given-told t = pairs-told (given-pairs a t)

@@ -1,25 +1,21 @@
 -- A key whose first version decides, by the numbers that code reads of its record, each at its place.
 -- Assumes nothing.
-use mathlib.Core.Path.{_≡_, refl, sym, ap, _∙_}
+use mathlib.Core.Path.{_≡_, refl, sym, _∙_}
 use mathlib.Core.List.{List, []}
-use Prim.Native.Nat.{ℕ, _+_, _*_, _-_, _^_, _<_, _≤_}
+use Prim.Native.Nat.{ℕ, _+_, _-_, _^_, _<_, _≤_}
 use native.Mathlib.Omega.{arith}
 use lib.ListN.{length}
-use lib.Seq.{sets}
-use Rattle.num.specs.Answer.{Answer, given}
+use Rattle.num.specs.Answer.{given}
 use Rattle.num.specs.Number.{Bytes, leAt}
 use Rattle.encoding.specs.Encoding.{keyHeaderLenOf, versionLenOf}
 use Rattle.encoding.proofs.Widths.{widths-le}
 use Rattle.header.specs.declared.Opened.{Opened}
 use Rattle.versions.specs.Version.{storedSeq}
-use Rattle.spans.specs.declared.Spanned.the-variants.{Pairs}
-use Rattle.spans.specs.Span.{Pair, valueEnd, valueAt, firstWithin, valuesFrom, pairNumbers, pairsWritten, spannedRead}
+use Rattle.spans.specs.Span.{Pair, valueEnd, valueAt, firstWithin, valuesFrom}
 use Rattle.spans.specs.Internal.{Spannable}
 use Rattle.spans.proofs.Keys.{one-key}
 use Rattle.spans.proofs.Values.{value-within, value-above, value-none, met-inside}
 use Rattle.wholekeys.proofs.Records.{record-bounds, found-is}
-use Rattle.wholepairs.specs.declared.KeyWritten.the-variants.{Written}
-use Rattle.wholepairs.specs.Internal.{KeyPut}
 
 module _ (s : List ℕ) (o : Opened) (limit at : ℕ) {header suffix versions : ℕ} (eh : header ≡ keyHeaderLenOf (o .encoding))
     (ex : suffix ≡ leAt s (o .arena + at + (o .encoding .address + o .encoding .key)) (o .encoding .key))
@@ -54,9 +50,3 @@ module _ (s : List ℕ) (o : Opened) (limit at : ℕ) {header suffix versions : 
       first-above w one =
           versions-answer ∙ value-above s o from limit versions some (omega arith) sum w
           ∙ value-none s o (from + versionLenOf (o .encoding)) limit (versions - 1) (omega arith)
-
--- so many pairs, written at the front, are the answer
-pub put-told : (a : Answer (List Pair)) (ps : List Pair) (l : List ℕ) {n : ℕ} {m : List ℕ} → a ≡ given ps → n ≡ length ps → m ≡ sets l 0 (pairNumbers ps)
-    → KeyPut (Written n) a l m
-unfolding KeyPut spannedRead pairsWritten
-put-told a ps l e en em = (ap Pairs en ∙ sym (ap spannedRead e), em ∙ sym (ap (λ (x : Answer (List Pair)). pairsWritten x l) e))

@@ -1,13 +1,13 @@
 use mathlib.Core.Path.{refl}
-use mathlib.Core.List.{[]}
 use Prim.Native.Nat.{_+_}
 use native.Mathlib.Omega.{arith}
 use Rattle.encoding.proofs.Widths.{widths-le}
 use Rattle.arena.proofs.Reading.{widths-read}
 use Rattle.locator.proofs.Versions.{stored-sum}
 use Rattle.spans.specs.Span.{valueEnd, pairNumbers}
+use Rattle.spans.proofs.Keys.{pairs-told}
 use Rattle.wholepairs.specs.Internal.{KeyPut}
-use Rattle.wholepairs.proofs.First.{version-small, first-within, first-above, put-told}
+use Rattle.wholepairs.proofs.First.{version-small, first-within, first-above}
 use borrow.Author.Needs.{needs}
 use Rattle.wholepairs.proofs.put_key.Statement.{statement}
 use Rattle.wholepairs.proofs.put_key.Tie as tie
@@ -174,7 +174,7 @@ add-if5 : tie.Need-add-if5
 add-if5 c = search needs
 
 returns-5 : tie.Need-returns-5
-unfolding valueEnd pairNumbers
+unfolding KeyPut valueEnd pairNumbers
 returns-5 c =
     let masked3 = c .before .before .before .before .before .masked3 in
     let key-header = c .before .before .before .before .before .before .before .before .before .before .before .key-header in
@@ -186,7 +186,7 @@ returns-5 c =
     let e = stored-sum (args .section .now) (args .o) from (masked3 .ensures) in
     let v = first-above (args .section .now) (args .o) (args .limit) (args .address) (key-header .ensures) (masked2 .ensures) (masked .ensures) (omega (arith, if2 .left))
     (search needs) (omega arith) (omega arith) (omega (arith, c .if6 .taken)) in
-    put-told _ [] (args .pairs .now) v refl refl
+    pairs-told _ (args .pairs .now) v refl refl
 
 returns-6 : tie.Need-returns-6
 unfolding KeyPut
@@ -202,7 +202,7 @@ same-length : tie.Need-same-length
 same-length c = search needs
 
 returns-7 : tie.Need-returns-7
-unfolding valueEnd
+unfolding KeyPut valueEnd
 returns-7 c =
     let put-version = c .before .before .put-version in
     let masked3 = c .before .before .before .before .before .before .before .before .masked3 in
@@ -215,7 +215,7 @@ returns-7 c =
     let e = stored-sum (args .section .now) (args .o) from (masked3 .ensures) in
     let v = first-within (args .section .now) (args .o) (args .limit) (args .address) (key-header .ensures) (masked2 .ensures) (masked .ensures) (omega (arith, if2 .left))
     (search needs) (omega arith) (omega arith) in
-    put-told _ _ (args .pairs .now) v (omega (arith, put-version .ensures .0)) (put-version .ensures .1)
+    pairs-told _ (args .pairs .now) v (omega (arith, put-version .ensures .0)) (put-version .ensures .1)
 
 pub put-key-spec : {M : Type 1} → statement M
 put-key-spec =
