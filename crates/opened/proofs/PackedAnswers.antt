@@ -5,13 +5,14 @@ use mathlib.Core.Bool.{true, false}
 use mathlib.Core.List.{List}
 use Prim.Native.Nat.{ℕ, _-_, _<_, _≤_}
 use lib.ListN.{length}
-use borrow.Author.Tests.{lt-ltb, le-ltb}
+use borrow.Author.Tests.{le-ltb}
 use Rattle.num.proofs.Choice.{both-no, both-yes}
 use Rattle.encoding.specs.Encoding.{trailerLen}
 use Rattle.header.specs.declared.Opened.{Opened}
 use Rattle.header.specs.Header.{begins, flagsOf, fieldsOf, dimensions, arenaBelow, fitsPacked, packedRecord}
 use Rattle.opened.specs.Opened.{sameRecord, packedOf}
 use Rattle.header.proofs.Answers.{sizes}
+use Rattle.header.proofs.Headers.{yes-below}
 
 module _ (s : List ℕ) (o found : Opened) (flags : ℕ) (e : found ≡ fieldsOf s) (f : flags ≡ flagsOf s) where
   pub packed-3 : begins s ≡ false → false ≡ packedOf s o
@@ -35,8 +36,8 @@ module _ (s : List ℕ) (o found : Opened) (flags : ℕ) (e : found ≡ fieldsOf
 
     pub packed-same : begins s ≡ true → dimensions found flags ≡ true → fitsPacked found ≡ true → packed .arena < length s - trailerLen
         → sameRecord packed o ≡ packedOf s o
-    unfolding packedOf arenaBelow
+    unfolding packedOf
     packed-same b d p h =
         both-yes _ _ _ b (both-yes _ _ _ (sizes s found flags e f true d) (both-yes _ _ _ (ap fitsPacked (sym e) ∙ p)
-        (both-yes _ _ _ (ap (arenaBelow s) (ap packedRecord (sym e) ∙ sym g) ∙ lt-ltb (packed .arena) (length s - trailerLen) h)
+        (both-yes _ _ _ (ap (arenaBelow s) (ap packedRecord (sym e) ∙ sym g) ∙ yes-below s packed h)
         (ap (λ (r : Opened). sameRecord r o) (g ∙ ap packedRecord e)))))

@@ -11,10 +11,7 @@ same-counts-requires c κs = search needs
 
 returns : tie.Need-returns
 unfolding sameRecord
-returns c =
-    let a = c .before .before .args .a in
-    let b = c .before .before .args .b in
-    both-no _ _ (sym (c .before .same-counts .ensures) ∙ not-true _ (c .if1 .taken))
+returns c = both-no _ _ (sym (c .before .same-counts .ensures) ∙ not-true _ (c .if1 .taken))
 
 same-encoding-requires : tie.Need-same-encoding-requires
 same-encoding-requires c κs = search needs
@@ -22,8 +19,6 @@ same-encoding-requires c κs = search needs
 returns-2 : tie.Need-returns-2
 unfolding sameRecord
 returns-2 c =
-    let a = c .before .before .before .before .before .before .args .a in
-    let b = c .before .before .before .before .before .before .args .b in
     both-yes _ _ _ (sym (c .before .before .before .before .before .same-counts .ensures) ∙ not-false _ (c .before .before .before .before .if1 .left))
     (both-no _ _ (sym (c .before .same-encoding .ensures) ∙ not-true _ (c .if2 .taken)))
 
