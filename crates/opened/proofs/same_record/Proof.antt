@@ -41,7 +41,7 @@ returns-4 c =
     both-yes _ _ _ (sym (k .before .before .before .before .before .same-counts .ensures) ∙ not-false _ (k .before .before .before .before .if1 .left))
     (both-yes _ _ _ (sym (k .before .same-encoding .ensures) ∙ not-false _ (k .if2 .left))
     (both-yes _ _ _ (eq-eqb (a .arena) (b .arena) (c .before .before .before .if3 .left))
-    (both-no _ _ (ne-eqb (a .scan) (b .scan) (c .if4 .taken)))))
+    (both-no _ _ (ne-eqb _ _ (c .if4 .taken)))))
 
 returns-5 : tie.Need-returns-5
 unfolding sameRecord
@@ -52,7 +52,7 @@ returns-5 c =
     both-yes _ _ _ (sym (k .before .before .before .before .before .same-counts .ensures) ∙ not-false _ (k .before .before .before .before .if1 .left))
     (both-yes _ _ _ (sym (k .before .same-encoding .ensures) ∙ not-false _ (k .if2 .left))
     (both-yes _ _ _ (eq-eqb (a .arena) (b .arena) (c .before .before .before .before .before .if3 .left))
-    (both-yes _ _ _ (eq-eqb (a .scan) (b .scan) (c .before .before .if4 .left))
+    (both-yes _ _ _ (eq-eqb _ _ (c .before .before .if4 .left))
     (refl))))
 
 pub same-record-spec : {M : Type 1} → statement M
