@@ -16,7 +16,8 @@ use Rattle.num.proofs.Order.{equalBytes-true, equalBytes-same}
 use Rattle.encoding.specs.declared.Encoding.{Encoding}
 use Rattle.encoding.specs.Encoding.{Widths, magic, scanMagic, trailerLen, stride, maxScanPrefix, bucketsOf, arenaStartOf}
 use Rattle.header.specs.declared.Opened.{Opened}
-use Rattle.header.specs.Header.{standsAt, between, begins, allowedWidths, usualWidths, dimensions, scanPartLen, scanPlaceOf, scanPart, scanSettings, withScan, fitsPacked}
+use Rattle.header.specs.Header.{standsAt, between, begins, allowedWidths, dimensions, scanPartLen, scanPlaceOf, scanPart, scanSettings, withScan, fitsPacked}
+use Rattle.header.specs.Internal.{usualWidths}
 use Rattle.header.specs.Facts.{Begins, Dimensions, Scan}
 
 -- eight bytes stand at a place if the numbers of both are the same

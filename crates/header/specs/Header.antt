@@ -71,10 +71,6 @@ allowedWidths e =
     (both (oneOf (1 ∷ 2 ∷ 4 ∷ 8 ∷ []) (e .seq))
     (oneOf (2 ∷ 4 ∷ []) (e .value)))))
 
--- the widths of most sections, but for that of sequences: fewer than 256 bytes to a key and versions of it, and short values
-unfoldable pub usualWidths : Encoding → Bool
-usualWidths e = both (eqb (e .address) 4) (both (eqb (e .key) 1) (both (eqb (e .count) 1) (eqb (e .value) 2)))
-
 -- question 4 of the header's numbers and flags, but for the comparison with the section's length
 unfoldable pub dimensions : Opened → ℕ → Bool
 dimensions o flags =
@@ -172,5 +168,5 @@ arenaEnd s o = if eqb (o .scan) 0 then length s - trailerLen else o .scan
 
 -- for proofs alone: `unfolding header-defs` opens the definitions of this file
 unfoldable pub header-defs : ℕ
-unfolding standsAt between begins flagsOf hasFlag encodingAt fieldsOf allowedWidths usualWidths dimensions arenaBelow scanFlagged scanPartLen scanPlaceOf scanPart scanSettings withScan scannedOf headerOf headerNumber fitsPacked packedRecord arenaEnd
+unfolding standsAt between begins flagsOf hasFlag encodingAt fieldsOf allowedWidths dimensions arenaBelow scanFlagged scanPartLen scanPlaceOf scanPart scanSettings withScan scannedOf headerOf headerNumber fitsPacked packedRecord arenaEnd
 header-defs = 0

@@ -4,7 +4,8 @@ ghost use mathlib.Core.List.{[], _∷_};
 ghost use Prim.Native.Nat.{_+_, _≤_, _<_};
 ghost use lib.ListN.{length};
 ghost use Rattle.num.specs.Choice.{oneOf};
-ghost use Rattle.header.specs.Header.{standsAt, begins, hasFlag, encodingAt, fieldsOf, allowedWidths, usualWidths, dimensions, scanPlaceOf, scanPart, scanSettings, scannedOf, headerOf, fitsPacked, packedRecord, arenaEnd};
+ghost use Rattle.header.specs.Header.{standsAt, begins, hasFlag, encodingAt, fieldsOf, allowedWidths, dimensions, scanPlaceOf, scanPart, scanSettings, scannedOf, headerOf, fitsPacked, packedRecord, arenaEnd};
+ghost use Rattle.header.specs.Internal.{usualWidths};
 ghost use Rattle.header.specs.Facts.{Dimensions};
 use encoding::Encoding;
 
@@ -119,7 +120,7 @@ fn value_allowed(w: usize) -> bool
     }
 }
 
-// The widths, but for that of sequences, of most sections: fewer than 256 bytes to a key and versions of it, and short values.
+// The widths, but for that of sequences, of most sections: addresses of four bytes, fewer than 256 bytes and versions to a key, values below 2^15 bytes.
 pub fn usual_widths(e: Encoding) -> bool
     ensures { λ r. ⌜ r ≡ usualWidths e ⌝ }
 {

@@ -17,7 +17,6 @@ use Rattle.header.proofs.Bounds.{buckets-range, scan-part, scan-end}
 use Rattle.opened.specs.Opened.{isRecord}
 use Rattle.opened.proofs.Records.{record-facts}
 use Rattle.spans.specs.declared.Spanned.{Spanned}
-use Rattle.spans.specs.declared.Spanned.the-variants.{Refused}
 use Rattle.spans.specs.Span.{Pair, scannable, scanAddress, valuesFrom, spanOf, pairsWritten, spannedRead}
 use Rattle.spans.specs.Internal.{Spannable}
 use Rattle.wholekeys.proofs.Whole.{table-address}
@@ -73,11 +72,6 @@ read-from s o first count limit four e = ap (valuesFrom count s o limit) (e ∙ 
 -- and what is answered of one answer is answered of the same
 pub told-of : {x y : Answer (List Pair)} → x ≡ y → (l : List ℕ) {r : Spanned} {m : List ℕ} → (r ≡ spannedRead x) × (m ≡ pairsWritten x l) → (r ≡ spannedRead y) × (m ≡ pairsWritten y l)
 told-of e l told = (told .0 ∙ ap spannedRead e, told .1 ∙ ap (λ (a : Answer (List Pair)). pairsWritten a l) e)
-
--- a refusal's number is answered, and nothing is written
-pub refuses : {x : Answer (List Pair)} {n : ℕ} → x ≡ refused n → (l : List ℕ) → (Refused n ≡ spannedRead x) × (l ≡ pairsWritten x l)
-unfolding spannedRead pairsWritten
-refuses e l = (sym (ap spannedRead e), sym (ap (λ (a : Answer (List Pair)). pairsWritten a l) e))
 
 module _ (s : List ℕ) (o : Opened) (first count limit places : ℕ) where
   abbrev whole : Answer (List Pair)

@@ -43,7 +43,7 @@ pub record Reached (s : List ℕ) (o : Opened) (limit address j : ℕ) : Type 0 
 
 -- a read of the key record that does not lie in the section, or a sum of 2^64 or more
 pub data Unread (s : List ℕ) (o : Opened) (limit address : ℕ) : Type 0 where
-  -- the key header
+  -- the key header, of which suffix length and number of versions, its last numbers, are read
   header : length s < o .arena + address + keyHeaderSize (o .encoding) → Unread s o limit address
   -- the sequence of a version that is come to, and its sum
   sequence : (j : ℕ) → Reached s o limit address j → length s < placeAt s o address j + o .encoding .seq → Unread s o limit address

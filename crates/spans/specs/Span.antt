@@ -30,7 +30,7 @@ pub record Pair : Type 0 where
 unfoldable pub scannable : Opened → Bool
 scannable o = both (not (o .packed)) (both (not (eqb (o .scan) 0)) (eqb (o .encoding .address) 4))
 
--- the scan address of a key, by its place among the keys
+-- the scan address of a key, by its place among the keys. 24 and 28 put it inside the section, so that 25 does not ask for it.
 unfoldable pub scanAddress : List ℕ → Opened → ℕ → ℕ
 scanAddress s o i = leAt s (o .scan + scanHeaderLen + i * o .encoding .address) (o .encoding .address)
 
@@ -61,11 +61,12 @@ firstWithin (suc count) s o pos limit =
       ]
     ]
 
--- the bytes of a key record before its versions: neither its anchor nor its suffix is read
+-- the bytes of a key record before its versions; anchor, shared length and suffix are not read
 unfoldable pub versionsStart : Opened → KeyHeader → ℕ
 versionsStart o h = keyHeaderLenOf (o .encoding) + h .«suffix_len»
 
--- the value of the key whose record stands at an address: its key header is read first (25)
+-- the value of the key whose record stands at an address. Of its key header the last two numbers are read, suffix length and number of versions, so
+-- the header must end inside the section (25).
 unfoldable pub keyValue : List ℕ → Opened → ℕ → ℕ → KeyHeader → Answer (List Pair)
 keyValue s o limit address h =
     ask readable s (o .arena + address) (keyHeaderLenOf (o .encoding)) otherwise refused 25 then

@@ -14,7 +14,8 @@ use Rattle.num.proofs.Number.{leAt-lt, leAt-split}
 use Rattle.num.proofs.Choice.{both-true, true-both}
 use Rattle.num.proofs.Order.{equalBytes-true}
 use Rattle.encoding.specs.Encoding.{Widths, scanMagic}
-use Rattle.header.specs.Header.{standsAt, begins, usualWidths, scanSettings}
+use Rattle.header.specs.Header.{standsAt, begins, scanSettings}
+use Rattle.header.specs.Internal.{usualWidths}
 use Rattle.header.specs.Facts.{Numbers, Scan, fromPlain}
 use Rattle.header.proofs.Questions.{begins-yes, widths-yes, usual-allowed, one-or-two, within-yes}
 use Rattle.opened.proofs.Records.{facts-record}

@@ -8,7 +8,8 @@ use lib.ListN.{length, getD}
 use Rattle.num.specs.Choice.{both}
 use Rattle.num.specs.Number.{leAt}
 use Rattle.encoding.specs.Encoding.{scanMagic}
-use Rattle.header.specs.Header.{standsAt, usualWidths, scanSettings}
+use Rattle.header.specs.Header.{standsAt, scanSettings}
+use Rattle.header.specs.Internal.{usualWidths}
 use Rattle.opened.specs.Opened.{isRecord}
 use Rattle.numbers.specs.Numbers.{openedOf, isRecordNumbers}
 use Rattle.held.specs.Held.{says}

@@ -1,6 +1,6 @@
 use mathlib.Core.Path.{refl}
 use Rattle.num.specs.Choice.{both}
-use Rattle.header.specs.Header.{usualWidths}
+use Rattle.header.specs.Internal.{usualWidths}
 use Rattle.header.proofs.usual_widths.Statement.{statement}
 use Rattle.header.proofs.usual_widths.Tie as tie
 

@@ -4,7 +4,8 @@ use Rattle.lookup.proofs.Tests.{said-yes, said-no}
 use Rattle.opened.specs.Opened.{isRecord}
 use Rattle.numbers.specs.Numbers.{openedOf}
 use Rattle.spans.specs.Span.{scannable}
-use Rattle.scans.proofs.Asked.{refuses, no-scan, told-of}
+use Rattle.spans.proofs.Keys.{refused-told}
+use Rattle.scans.proofs.Asked.{no-scan, told-of}
 use Rattle.scans.proofs.Numbers.{no-numbers, no-record, spanned-over}
 use borrow.Author.Needs.{needs}
 use Rattle.scans.proofs.general_span.Statement.{statement}
@@ -19,7 +20,7 @@ is-record-numbers-requires c κs = search needs
 returns : tie.Need-returns
 returns c =
     let a = c .before .before .before .before .before .args in
-    refuses (no-numbers (a .section .now) (a .numbers .now) (a .first) (a .count) (a .limit) (length (a .pairs .now)) (said-no (c .before .is-record-numbers .ensures) (c .if1 .taken))) (a .pairs .now)
+    refused-told _ (a .pairs .now) (no-numbers (a .section .now) (a .numbers .now) (a .first) (a .count) (a .limit) (length (a .pairs .now)) (said-no (c .before .is-record-numbers .ensures) (c .if1 .taken)))
 
 is-record-requires : tie.Need-is-record-requires
 is-record-requires c κs = search needs
@@ -29,7 +30,7 @@ returns-2 c =
     let a = c .before .before .before .before .before .before .before .args in
     let is = said-yes (c .before .before .before .is-record-numbers .ensures) (c .before .before .if1 .left) in
     let e = ap (isRecord (a .section .now)) (c .before .before .before .before .read-record .ensures) in
-    refuses (no-record (a .section .now) (a .numbers .now) (a .first) (a .count) (a .limit) (length (a .pairs .now)) is (sym e ∙ said-no (c .before .is-record .ensures) (c .if2 .taken))) (a .pairs .now)
+    refused-told _ (a .pairs .now) (no-record (a .section .now) (a .numbers .now) (a .first) (a .count) (a .limit) (length (a .pairs .now)) is (sym e ∙ said-no (c .before .is-record .ensures) (c .if2 .taken)))
 
 scannable-requires : tie.Need-scannable-requires
 scannable-requires c κs = search needs
@@ -43,7 +44,7 @@ returns-3 c =
     let r = sym (ap (isRecord (a .section .now)) e) ∙ said-yes (c .before .before .before .is-record .ensures) (c .before .before .if2 .left) in
     let q = sym (ap scannable e) ∙ said-no (c .before .scannable .ensures) (c .if3 .taken) in
     let over = spanned-over (a .section .now) (a .numbers .now) (a .first) (a .count) (a .limit) (length (a .pairs .now)) is refl in
-    refuses (sym over ∙ no-scan (a .section .now) o (a .first) (a .count) (a .limit) (length (a .pairs .now)) r q) (a .pairs .now)
+    refused-told _ (a .pairs .now) (sym over ∙ no-scan (a .section .now) o (a .first) (a .count) (a .limit) (length (a .pairs .now)) r q)
 
 record-span-requires : tie.Need-record-span-requires
 record-span-requires c κs =

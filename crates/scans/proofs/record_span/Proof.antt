@@ -5,7 +5,8 @@ use lib.ListN.{length}
 use Rattle.header.specs.declared.Opened.{Opened}
 use Rattle.lookup.proofs.Tests.{said-yes, said-no}
 use Rattle.numbers.specs.Numbers.{openedOf}
-use Rattle.scans.proofs.Asked.{spannable, table-inside, refuses, no-keys, no-places, walked, told-of}
+use Rattle.spans.proofs.Keys.{refused-told}
+use Rattle.scans.proofs.Asked.{spannable, table-inside, no-keys, no-places, walked, told-of}
 use borrow.Author.Needs.{needs}
 use Rattle.scans.proofs.record_span.Statement.{statement}
 use Rattle.scans.proofs.record_span.Tie as tie
@@ -22,7 +23,7 @@ returns c =
     let a = s .args in
     let e = ap (λ (o : Opened). leb (a .first + a .count) (o .count)) (c .before .before .read-record .ensures) in
     let n = sym e ∙ said-no (c .before .keys-inside .ensures) (c .if1 .taken) in
-    refuses (no-keys (a .section .now) (openedOf (a .numbers .now)) (a .first) (a .count) (a .limit) (length (a .pairs .now)) (s .pre .0) (s .pre .1) n) (a .pairs .now)
+    refused-told _ (a .pairs .now) (no-keys (a .section .now) (openedOf (a .numbers .now)) (a .first) (a .count) (a .limit) (length (a .pairs .now)) (s .pre .0) (s .pre .1) n)
 
 returns-2 : tie.Need-returns-2
 returns-2 c =
@@ -30,7 +31,7 @@ returns-2 c =
     let a = s .args in
     let e = ap (λ (o : Opened). leb (a .first + a .count) (o .count)) (c .before .before .before .read-record .ensures) in
     let k = sym e ∙ said-yes (c .before .before .keys-inside .ensures) (c .before .if1 .left) in
-    refuses (no-places (a .section .now) (openedOf (a .numbers .now)) (a .first) (a .count) (a .limit) (length (a .pairs .now)) (s .pre .0) (s .pre .1) k (search needs)) (a .pairs .now)
+    refused-told _ (a .pairs .now) (no-places (a .section .now) (openedOf (a .numbers .now)) (a .first) (a .count) (a .limit) (length (a .pairs .now)) (s .pre .0) (s .pre .1) k (search needs))
 
 scan-values-requires : tie.Need-scan-values-requires
 scan-values-requires c κs =

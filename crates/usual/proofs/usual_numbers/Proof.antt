@@ -5,7 +5,7 @@ use lib.Dec.{eqb, leb, ltb}
 use lib.ListN.{getD}
 use Rattle.num.specs.Choice.{both}
 use Rattle.header.specs.declared.Opened.{Opened}
-use Rattle.header.specs.Header.{usualWidths}
+use Rattle.header.specs.Internal.{usualWidths}
 use Rattle.usual.specs.Internal.{usualNumbers}
 use borrow.Author.Needs.{needs}
 use Rattle.usual.proofs.usual_numbers.Statement.{statement}
