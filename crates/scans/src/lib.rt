@@ -147,7 +147,7 @@ fn answered(spanned: Spanned, found: &mut u64) -> u64
     }
 }
 
-// One key of a record that 24, 27 and 28 hold of. What 29 refuses is left.
+// One key of a record that 24, 27 and 28 hold of. What 29 or 25 refuses is left.
 fn one_key(
     section: &[u8],
     numbers: &[u64; 16],
@@ -192,9 +192,8 @@ pub fn span(
     let written = one_key(section, numbers, first, limit, pairs);
     match written {
         KeyWritten::Written(n) => answered(Spanned::Pairs(n), found),
-        // `general_span` has two callers and so stays out of line, which keeps this function short.
         KeyWritten::Left => {
-            let spanned = general_span(section, numbers, first, 1, limit, pairs);
+            let spanned = record_span(section, numbers, first, 1, limit, pairs);
             answered(spanned, found)
         }
     }

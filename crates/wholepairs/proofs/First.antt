@@ -1,21 +1,22 @@
--- A key whose first version decides, by the numbers that code reads of its record, each at its place.
+-- A key by the numbers that code reads of its record, each at its place.
 -- Assumes nothing.
-use mathlib.Core.Path.{_≡_, refl, sym, _∙_}
+use mathlib.Core.Path.{_≡_, refl, sym, _∙_, subst}
 use mathlib.Core.List.{List, []}
 use Prim.Native.Nat.{ℕ, _+_, _-_, _^_, _<_, _≤_}
 use native.Mathlib.Omega.{arith}
 use lib.ListN.{length}
-use Rattle.num.specs.Answer.{given}
+use Rattle.num.specs.Answer.{Answer, given}
 use Rattle.num.specs.Number.{Bytes, leAt}
-use Rattle.encoding.specs.Encoding.{keyHeaderLenOf, versionLenOf}
+use Rattle.encoding.specs.Encoding.{keyHeaderLenOf}
 use Rattle.encoding.proofs.Widths.{widths-le}
 use Rattle.header.specs.declared.Opened.{Opened}
-use Rattle.versions.specs.Version.{storedSeq}
 use Rattle.spans.specs.Span.{Pair, valueEnd, valueAt, firstWithin, valuesFrom}
 use Rattle.spans.specs.Internal.{Spannable}
 use Rattle.spans.proofs.Keys.{one-key}
-use Rattle.spans.proofs.Values.{value-within, value-above, value-none, met-inside}
 use Rattle.wholekeys.proofs.Records.{record-bounds, found-is}
+use Rattle.wholepairs.specs.declared.VersionFound.{VersionFound}
+use Rattle.wholepairs.specs.declared.VersionFound.the-variants as found
+use Rattle.wholepairs.specs.Internal.{VersionTold}
 
 module _ (s : List ℕ) (o : Opened) (limit at : ℕ) {header suffix versions : ℕ} (eh : header ≡ keyHeaderLenOf (o .encoding))
     (ex : suffix ≡ leAt s (o .arena + at + (o .encoding .address + o .encoding .key)) (o .encoding .key))
@@ -33,20 +34,16 @@ module _ (s : List ℕ) (o : Opened) (limit at : ℕ) {header suffix versions : 
       let x = record-bounds s o limit at eh refl ex ev b (p .widths) .0 in
       omega arith
 
-  module _ (some : 0 < versions) (room : from + valueEnd (o .encoding) ≤ length s) where
-    -- the key's answer is that of its versions
-    versions-answer : valuesFrom 1 s o limit at ≡ firstWithin versions s o from limit
-    versions-answer = one-key s o limit at ∙ sym (found-is s o limit at eh refl ex ev (omega arith))
+  -- where its header is inside, the key's answer is that of its versions
+  pub versions-answer : o .arena + at + header ≤ length s → valuesFrom 1 s o limit at ≡ firstWithin versions s o from limit
+  versions-answer l = one-key s o limit at ∙ sym (found-is s o limit at eh refl ex ev l)
 
-    module _ (sum : storedSeq s o from < 2 ^ 64) where
-      -- within the limit that version's value is the answer
-      pub first-within : storedSeq s o from ≤ limit → valuesFrom 1 s o limit at ≡ given (valueAt s o from)
-      unfolding valueEnd
-      first-within w = versions-answer ∙ value-within s o from limit versions some (omega arith) sum w ∙ met-inside s o from limit room
+-- what was found of some versions tells their answer
+module _ (s : List ℕ) (o : Opened) (a : Answer (List Pair)) {v : VersionFound} (t : VersionTold v s o a) where
+  pub at-told : {pos : ℕ} → v ≡ found.At pos → (a ≡ given (valueAt s o pos)) × (pos + valueEnd (o .encoding) + 8 ≤ length s)
+  unfolding VersionTold
+  at-told e = subst (λ (x : VersionFound). VersionTold x s o a) e t
 
-      -- above it there is none, if it is the only one
-      pub first-above : limit < storedSeq s o from → versions ≡ 1 → valuesFrom 1 s o limit at ≡ given []
-      unfolding valueEnd
-      first-above w one =
-          versions-answer ∙ value-above s o from limit versions some (omega arith) sum w
-          ∙ value-none s o (from + versionLenOf (o .encoding)) limit (versions - 1) (omega arith)
+  pub absent-told : v ≡ found.Absent → a ≡ given []
+  unfolding VersionTold
+  absent-told e = subst (λ (x : VersionFound). VersionTold x s o a) e t

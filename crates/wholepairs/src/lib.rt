@@ -1,4 +1,4 @@
-// Values of keys as pairs of offset and length, read by words of eight bytes: of one key by its first version, and of keys whose records are whole, each at its scan address.
+// Values of keys as pairs of offset and length, read by words of eight bytes: of one key, and of keys whose records are whole, each at its scan address.
 ghost use mathlib.Core.Path.{_≡_};
 ghost use Prim.Native.Nat.{ℕ, _+_, _*_, _^_, _<_, _≤_};
 ghost use lib.ListN.{length};
@@ -8,7 +8,7 @@ ghost use Rattle.versions.specs.Version.{storedSeq};
 ghost use Rattle.spans.specs.Span.{scanAddress, valueEnd, valueAt, firstWithin, valuesFrom, pairNumbers};
 ghost use Rattle.spans.specs.Internal.{Spannable, pairsOf};
 ghost use Rattle.wholekeys.specs.Internal.{WholeKeys};
-ghost use Rattle.wholepairs.specs.Internal.{KeyPut};
+ghost use Rattle.wholepairs.specs.Internal.{VersionTold, KeyPut};
 use encoding::Encoding;
 use header::Opened;
 
@@ -31,14 +31,50 @@ fn put_version(section: &[u8], o: Opened, pos: usize, pairs: &mut [u64], to: usi
     to + 2
 }
 
+// What is found of a key's versions: the place of the first within the limit, that there is none, or nothing.
+enum VersionFound {
+    At(usize),
+    Absent,
+    Left,
+}
+
+// The first of some versions within a limit. Too few bytes behind what is read, and a sum beyond 64 bits, are left.
+fn first_within(section: &[u8], o: Opened, versions: usize, from: usize, limit: u64) -> VersionFound
+    requires { ⌜ Spannable o ⌝ }
+    requires { ⌜ from < 2 ^ 40 ⌝ }
+    ensures { λ r. ⌜ VersionTold r (now (section .entry)) o (firstWithin versions (now (section .entry)) o from limit) ⌝ }
+{
+    let e = o.encoding;
+    let mask = words::mask(e.seq);
+    let size = e.version();
+    let end = e.seq + e.value + e.address + 8;
+    let most = 0xFFFF_FFFF_FFFF_FFFF - o.min_seq;
+    let mut pos = from;
+    let mut left = versions;
+    while 0 < left {
+        if section.len() < pos + end {
+            return VersionFound::Left;
+        }
+        let stored = words::masked(section, pos, e.seq, mask);
+        if most < stored {
+            return VersionFound::Left;
+        }
+        if o.min_seq + stored <= limit {
+            return VersionFound::At(pos);
+        }
+        pos += size;
+        left -= 1;
+    }
+    VersionFound::Absent
+}
+
 // What became of a key: so many pairs of it were written, or nothing was and its caller reads it another way.
 pub enum KeyWritten {
     Written(u64),
     Left,
 }
 
-// Writes the value of the key whose record stands at an address, if its first version is within the limit or its only one. A key of no versions,
-// too few bytes behind what is read, and a sum beyond 64 bits are left.
+// Writes the value of the key whose record stands at an address, unless something of it is left.
 pub fn put_key(
     section: &[u8],
     o: Opened,
@@ -62,27 +98,17 @@ pub fn put_key(
         pos + lengths + e.key,
         e.count,
         words::mask(e.count),
-    );
-    if versions == 0 {
-        return KeyWritten::Left;
-    }
+    ) as usize;
     let suffix_len = words::masked(section, pos + lengths, e.key, words::mask(e.key)) as usize;
     let from = pos + (e.key_header() + suffix_len);
-    if section.len() < from + e.seq + e.value + e.address + 8 {
-        return KeyWritten::Left;
+    let found = first_within(section, o, versions, from, limit);
+    match found {
+        VersionFound::At(at) => {
+            KeyWritten::Written(put_version(section, o, at, pairs, 0) as u64 / 2)
+        }
+        VersionFound::Absent => KeyWritten::Written(0),
+        VersionFound::Left => KeyWritten::Left,
     }
-    let stored = words::masked(section, from, e.seq, words::mask(e.seq));
-    if 0xFFFF_FFFF_FFFF_FFFF - o.min_seq < stored {
-        return KeyWritten::Left;
-    }
-    if limit < o.min_seq + stored {
-        return if versions == 1 {
-            KeyWritten::Written(0)
-        } else {
-            KeyWritten::Left
-        };
-    }
-    KeyWritten::Written(put_version(section, o, from, pairs, 0) as u64 / 2)
 }
 
 // Writes the value of the first of some versions within the limit, if there is one, and answers where the next pair goes.

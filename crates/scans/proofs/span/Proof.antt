@@ -64,8 +64,10 @@ answered-requires-3 c κs = search needs
 enum-told : tie.Need-enum-told
 enum-told c = search needs
 
-general-span-requires-2 : tie.Need-general-span-requires-2
-general-span-requires-2 c κs = search needs
+record-span-requires-2 : tie.Need-record-span-requires-2
+record-span-requires-2 c κs =
+    let r = c .before .before .before .before .before .before .before .before .before .is-scan-record .ensures (not-false _ (c .before .before .before .before .before .before .before .before .if1 .left)) in
+    (r .held, r .scans)
 
 answered-requires-4 : tie.Need-answered-requires-4
 answered-requires-4 c κs = search needs
@@ -90,11 +92,13 @@ returns-4 c =
     let a = c .before .before .before .before .before .before .before .before .before .before .before .before .before .before .before .before .before .args in
     let one : a .count ≡ 1 = c .before .before .before .before .before .before .before .before .before .before .before .before .if2 .left in
     let kept = left-kept _ (a .pairs .now) _ (c .before .before .before .before .before .before .before .before .before .before .one-key .ensures) (c .before .before .before .before .before .before .enum-told .given .1) in
-    let general = c .before .before .before .before .general-span2 .ensures in
+    let r = c .before .before .before .before .before .before .before .before .before .before .before .before .before .before .is-scan-record .ensures (not-false _ (c .before .before .before .before .before .before .before .before .before .before .before .before .before .if1 .left)) in
     let x : ℕ → List ℕ → Answer (List Pair) = λ n l. spanOfNumbers (a .section .now) (a .numbers .now) (a .first) n (a .limit) (length l) in
+    let over = spanned-over (a .section .now) (a .numbers .now) (a .first) 1 (a .limit) _ (r .numbers) refl in
     let e = ap (x 1) kept ∙ ap (λ (n : ℕ). x n (a .pairs .now)) (sym one) in
-    let said = outcome _ (general .0 ∙ ap spannedRead e) (a .found .now) (c .answered4 .ensures) in
-    (said .0, general .1 ∙ ap₂ pairsWritten e kept, said .1)
+    let spanned = c .before .before .before .before .record-span2 .ensures in
+    let said = outcome _ (spanned .0 ∙ ap spannedRead (over ∙ e)) (a .found .now) (c .answered4 .ensures) in
+    (said .0, spanned .1 ∙ ap₂ pairsWritten (over ∙ e) kept, said .1)
 
 pub span-spec : {M : Type 1} → statement M
 span-spec =
@@ -113,7 +117,7 @@ span-spec =
     enum-known-written
     answered-requires-3
     enum-told
-    general-span-requires-2
+    record-span-requires-2
     answered-requires-4
     same-length-3
     returns-3

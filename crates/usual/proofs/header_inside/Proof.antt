@@ -25,7 +25,7 @@ element-copy-out-arena : tie.Need-element-copy-out-arena
 element-copy-out-arena c = search needs
 
 returns-4 : tie.Need-returns-4
-returns-4 c = search needs
+returns-4 c = false-true
 
 add-u32-at : tie.Need-add-u32-at
 add-u32-at c = search needs
