@@ -52,6 +52,7 @@ impl Asked {
         let ours = repeated(move || {
             black_box(&firsts).iter().fold(0, |sum: u64, &first| {
                 let (asked, mut found) = ([first as u64, count as u64, black_box(limit)], 0);
+                // The vector is hidden, as the index is on the other side; a hidden slice would go through memory.
                 let section: &Vec<u8> = black_box(&section);
                 assert_eq!(ours::span(section, &record, asked, &mut pairs, &mut found), 0);
                 let given = &black_box(&pairs)[..2 * found as usize];
@@ -87,8 +88,10 @@ pub fn rows(rng: &mut Rng) -> Vec<Row> {
             rows.push(asked.row("half of them within the limit", MIDDLE, 1.0));
         }
         let index = Rc::new(Store::of(entries(rng, keys, 3), PREFIX).plain());
-        let asked = Asked::new(rng, &index, keys, keys);
-        rows.push(asked.row("second of three versions, or third", MIDDLE, 1.0));
+        for count in [1, 32, keys] {
+            let asked = Asked::new(rng, &index, keys, count);
+            rows.push(asked.row("second of three versions, or third", MIDDLE, 1.0));
+        }
         let mut entries = entries(rng, keys, 1);
         entries[0].value.resize(LONG_VALUE, 0);
         let index = Rc::new(Store::of(entries, PREFIX).plain());

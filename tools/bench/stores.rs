@@ -190,6 +190,7 @@ fn lookup_row(
     let ours = repeated(move || {
         let mut answer = [0; 6];
         black_box(&asked).chunks_exact(key).fold(0, |sum: u64, key| {
+            // The vector is hidden, as the index is on the other side; a hidden slice would go through memory.
             let section: &Vec<u8> = black_box(&section);
             let number = ours::lookup(section, &record, key, black_box(LIMIT), &mut answer);
             assert!(number == 0 && answer[0] == u64::from(held));

@@ -49,7 +49,8 @@ static void lookup(void) { result |= kiban_lookup(section, len, record, (const u
 static void lookup_packed(void) { result |= kiban_lookup(packed, packed_len, packed_record, (const uint8_t *)"ab", 2, 7, answer); }
 static void value(void) { result |= kiban_value(data, 82, answer[KIBAN_A_OFFSET], answer[KIBAN_A_LENGTH]); }
 static void span_one(void) { result |= kiban_span(section, len, record, 0, 1, UINT64_MAX, pairs, 4, &found); }
-static void span_later(void) { result |= kiban_span(section, len, record, 0, 1, 6, pairs, 4, &found); }
+/* No key from the last on: asked question by question. */
+static void span_none(void) { result |= kiban_span(section, len, record, 2, 0, UINT64_MAX, pairs, 4, &found); }
 static void span(void) { result |= kiban_span(section, len, record, 0, 2, UINT64_MAX, pairs, 4, &found); }
 static void crc_short(void) { crc = kiban_crc32(data, 82); }
 static void crc_long(void) { crc = kiban_crc32(many, LONG); }
@@ -64,7 +65,7 @@ int main(int argc, char **argv) {
     } rows[] = {
         {"kiban_add", add}, {NULL, add_rest}, {"kiban_add, a long value", add_long}, {"kiban_size", measure_size}, {"kiban_write", write},
         {"kiban_open", open}, {"kiban_open_packed", pack}, {"kiban_lookup", lookup}, {"kiban_lookup, packed", lookup_packed},
-        {"kiban_value", value}, {"kiban_span, one key", span_one}, {"kiban_span, one key by a later version", span_later},
+        {"kiban_value", value}, {"kiban_span, one key", span_one}, {"kiban_span, asked question by question", span_none},
         {"kiban_span", span}, {"kiban_crc32", crc_short}, {"kiban_crc32, long", crc_long}, {"kiban_fill_blocks", fill}, {"kiban_find_block", find},
     };
     FILE *file = argc == 2 ? fopen(argv[1], "rb") : NULL;
