@@ -42,7 +42,7 @@ impl Asked {
         Asked { index: index.clone(), keys, firsts, count }
     }
 
-    fn row(&self, what: &str, limit: u64, most: f64) -> Row {
+    fn row(&self, what: &str, limit: u64, most: impl Into<Option<f64>>) -> Row {
         let (count, units) = (self.count, self.firsts.len() * self.count);
         let span = if count == self.keys { "all".to_string() } else { count.to_string() };
         let name = format!("span of {span}, {} keys, {what}, per key", thousands(self.keys));
@@ -67,7 +67,7 @@ impl Asked {
                 sum.wrapping_add(weighed(pairs.len() as u64, black_box(&pairs).last().copied()))
             })
         });
-        row(name, units, Some(most), ours, rust)
+        row(name, units, most.into(), ours, rust)
     }
 }
 
@@ -95,8 +95,10 @@ pub fn rows(rng: &mut Rng) -> Vec<Row> {
         let mut entries = entries(rng, keys, 1);
         entries[0].value.resize(LONG_VALUE, 0);
         let index = Rc::new(Store::of(entries, PREFIX).plain());
-        let asked = Asked::new(rng, &index, keys, keys);
-        rows.push(asked.row("a long value, no limit, general path", GENERAL, 1.0));
+        for (count, most) in [(1, None), (32, Some(1.0)), (keys, Some(1.0))] {
+            let asked = Asked::new(rng, &index, keys, count);
+            rows.push(asked.row("a long value, no limit, general path", GENERAL, most));
+        }
     }
     rows
 }

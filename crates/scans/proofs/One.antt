@@ -47,10 +47,6 @@ module _ (s numbers : List ℕ) (first limit places : ℕ) (r : ScanRecord s num
         ∙ walked s (openedOf numbers) first 1 limit places (r .held) (r .scans) inside (omega arith)
         ∙ spanned-over s numbers first 1 limit places (r .numbers) refl
 
--- what was put of one answer was put of the same
-pub put-over : {a x : Answer (List Pair)} → a ≡ x → (v : KeyWritten) (before after : List ℕ) → KeyPut v a before after → KeyPut v x before after
-put-over e v before after put = subst (λ (y : Answer (List Pair)). KeyPut v y before after) e put
-
 module _ (a : Answer (List Pair)) (before after : List ℕ) {v : KeyWritten} (put : KeyPut v a before after) where
   -- what the key's reader wrote is what the span gives
   pub written-told : {n : ℕ} → v ≡ Written n → (x : Answer (List Pair)) → a ≡ x → (Pairs n ≡ spannedRead x) × (after ≡ pairsWritten x before)

@@ -16,7 +16,8 @@ use Rattle.spans.proofs.Keys.{one-key}
 use Rattle.wholekeys.proofs.Records.{record-bounds, found-is}
 use Rattle.wholepairs.specs.declared.VersionFound.{VersionFound}
 use Rattle.wholepairs.specs.declared.VersionFound.the-variants as found
-use Rattle.wholepairs.specs.Internal.{VersionTold}
+use Rattle.wholepairs.specs.declared.KeyWritten.{KeyWritten}
+use Rattle.wholepairs.specs.Internal.{VersionTold, KeyPut}
 
 module _ (s : List ℕ) (o : Opened) (limit at : ℕ) {header suffix versions : ℕ} (eh : header ≡ keyHeaderLenOf (o .encoding))
     (ex : suffix ≡ leAt s (o .arena + at + (o .encoding .address + o .encoding .key)) (o .encoding .key))
@@ -47,3 +48,7 @@ module _ (s : List ℕ) (o : Opened) (a : Answer (List Pair)) {v : VersionFound}
   pub absent-told : v ≡ found.Absent → a ≡ given []
   unfolding VersionTold
   absent-told e = subst (λ (x : VersionFound). VersionTold x s o a) e t
+
+-- what was put of one answer was put of the same
+pub put-over : {a x : Answer (List Pair)} → a ≡ x → (v : KeyWritten) (before after : List ℕ) → KeyPut v a before after → KeyPut v x before after
+put-over e v before after put = subst (λ (y : Answer (List Pair)). KeyPut v y before after) e put

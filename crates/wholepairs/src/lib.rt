@@ -1,8 +1,10 @@
 // Values of keys as pairs of offset and length, read by words of eight bytes: of one key, and of keys whose records are whole, each at its scan address.
 ghost use mathlib.Core.Path.{_≡_};
+ghost use mathlib.Core.Bool.{true};
 ghost use Prim.Native.Nat.{ℕ, _+_, _*_, _^_, _<_, _≤_};
 ghost use lib.ListN.{length};
 ghost use lib.Seq.{sets};
+ghost use Rattle.num.specs.Number.{leAt, isWidth};
 ghost use Rattle.encoding.specs.Encoding.{versionLenOf};
 ghost use Rattle.versions.specs.Version.{storedSeq};
 ghost use Rattle.spans.specs.Span.{scanAddress, valueEnd, valueAt, firstWithin, valuesFrom, pairNumbers};
@@ -74,6 +76,57 @@ pub enum KeyWritten {
     Left,
 }
 
+// The number of a width at a place, which has eight bytes: two bytes, as most sequences have, by a load of their own.
+fn seq_at(section: &[u8], at: usize, width: usize) -> u64
+    requires { ⌜ at + 8 ≤ length (now section) ⌝ }
+    requires { ⌜ isWidth width ≡ true ⌝ }
+    ensures { λ r. ⌜ r ≡ leAt (now (section .entry)) at width ⌝ }
+{
+    if width == 2 {
+        return num::u16_at(section, at);
+    }
+    words::masked(section, at, width, words::mask(width))
+}
+
+// Writes the value of the first of some versions within the limit, unless something is left. The first of all is mostly the one, and is asked before
+// the others.
+fn put_first(
+    section: &[u8],
+    o: Opened,
+    versions: usize,
+    from: usize,
+    limit: u64,
+    pairs: &mut [u64],
+) -> KeyWritten
+    requires { ⌜ Spannable o ⌝ }
+    requires { ⌜ from < 2 ^ 39 ⌝ }
+    requires { ⌜ 2 ≤ length (now pairs) ⌝ }
+    ensures { λ r. ⌜ KeyPut r (firstWithin versions (now (section .entry)) o from limit) (now (pairs .entry)) (now (pairs .exit)) ⌝ }
+{
+    let e = o.encoding;
+    if versions == 0 {
+        return KeyWritten::Left;
+    }
+    if section.len() < from + e.seq + e.value + e.address + 8 {
+        return KeyWritten::Left;
+    }
+    let stored = seq_at(section, from, e.seq);
+    if 0xFFFF_FFFF_FFFF_FFFF - o.min_seq < stored {
+        return KeyWritten::Left;
+    }
+    if o.min_seq + stored <= limit {
+        return KeyWritten::Written(put_version(section, o, from, pairs, 0) as u64 / 2);
+    }
+    let found = first_within(section, o, versions - 1, from + e.version(), limit);
+    match found {
+        VersionFound::At(at) => {
+            KeyWritten::Written(put_version(section, o, at, pairs, 0) as u64 / 2)
+        }
+        VersionFound::Absent => KeyWritten::Written(0),
+        VersionFound::Left => KeyWritten::Left,
+    }
+}
+
 // Writes the value of the key whose record stands at an address, unless something of it is left.
 pub fn put_key(
     section: &[u8],
@@ -101,14 +154,7 @@ pub fn put_key(
     ) as usize;
     let suffix_len = words::masked(section, pos + lengths, e.key, words::mask(e.key)) as usize;
     let from = pos + (e.key_header() + suffix_len);
-    let found = first_within(section, o, versions, from, limit);
-    match found {
-        VersionFound::At(at) => {
-            KeyWritten::Written(put_version(section, o, at, pairs, 0) as u64 / 2)
-        }
-        VersionFound::Absent => KeyWritten::Written(0),
-        VersionFound::Left => KeyWritten::Left,
-    }
+    put_first(section, o, versions, from, limit, pairs)
 }
 
 // Writes the value of the first of some versions within the limit, if there is one, and answers where the next pair goes.

@@ -1,12 +1,10 @@
-use mathlib.Core.Path.{refl, _∙_}
+use mathlib.Core.Path.{refl, sym}
 use native.Mathlib.Omega.{arith}
 use Rattle.encoding.specs.Encoding.{keyHeaderLenOf}
 use Rattle.encoding.proofs.Widths.{widths-le}
 use Rattle.arena.proofs.Reading.{widths-read}
-use Rattle.spans.specs.Span.{pairNumbers}
-use Rattle.spans.proofs.Keys.{pairs-told}
 use Rattle.wholepairs.specs.Internal.{KeyPut}
-use Rattle.wholepairs.proofs.First.{version-small, versions-answer, at-told, absent-told}
+use Rattle.wholepairs.proofs.First.{version-small, versions-answer, put-over}
 use borrow.Author.Needs.{needs}
 use Rattle.wholepairs.proofs.put_key.Statement.{statement}
 use Rattle.wholepairs.proofs.put_key.Tie as tie
@@ -95,69 +93,32 @@ add-from-2 c =
     let pre = c .before .before .before .before .before .before .before .before .before .before .before .before .before .pre in
     omega (arith, version-small (args .section .now) (args .o) (args .limit) (args .address) (key-header .ensures) (masked2 .ensures) (masked .ensures) (λ n. shared-slice-known .given n .fits) (pre .0) (pre .1 .0))
 
-first-within-requires : tie.Need-first-within-requires
-first-within-requires c κs =
-    let key-header = c .key-header in
-    let masked2 = c .before .masked2 in
-    let masked = c .before .before .before .masked in
-    let shared-slice-known = c .before .before .before .before .before .before .before .before .before .before .before .before .shared-slice-known in
-    let args = c .before .before .before .before .before .before .before .before .before .before .before .before .before .args in
-    let pre = c .before .before .before .before .before .before .before .before .before .before .before .before .before .pre in
-    (pre .0, omega (arith, version-small (args .section .now) (args .o) (args .limit) (args .address) (key-header .ensures) (masked2 .ensures) (masked .ensures) (λ n. shared-slice-known .given n .fits) (pre .0) (pre .1 .0)))
-
-enum-known-found : tie.Need-enum-known-found
-enum-known-found c = search needs
-
-put-version-requires : tie.Need-put-version-requires
-put-version-requires c κs =
-    let found = c .before .before .found in
-    let first-within = c .before .before .before .before .first-within in
-    let pre = c .before .before .before .before .before .before .before .before .before .before .before .before .before .before .before .before .before .before .pre in
-    let t = at-told _ _ _ (first-within .ensures) (found .given .1) in
-    (pre .0, (t .1, search needs))
-
-enum-told : tie.Need-enum-told
-enum-told c = search needs
-
-enum-told-2 : tie.Need-enum-told-2
-enum-told-2 c = search needs
+put-first-requires : tie.Need-put-first-requires
+put-first-requires c κs =
+    let key-header = c .before .key-header in
+    let masked2 = c .before .before .masked2 in
+    let masked = c .before .before .before .before .masked in
+    let shared-slice-known = c .before .before .before .before .before .before .before .before .before .before .before .before .before .shared-slice-known in
+    let args = c .before .before .before .before .before .before .before .before .before .before .before .before .before .before .args in
+    let pre = c .before .before .before .before .before .before .before .before .before .before .before .before .before .before .pre in
+    (pre .0, (omega (arith, version-small (args .section .now) (args .o) (args .limit) (args .address) (key-header .ensures) (masked2 .ensures) (masked .ensures) (λ n. shared-slice-known .given n .fits) (pre .0) (pre .1 .0)), search needs))
 
 same-length : tie.Need-same-length
 same-length c = search needs
 
 returns-2 : tie.Need-returns-2
-unfolding KeyPut keyHeaderLenOf
+unfolding keyHeaderLenOf
 returns-2 c =
-    let put-version = c .before .before .put-version in
-    let found = c .before .before .before .before .before .found in
-    let first-within = c .before .before .before .before .before .before .before .first-within in
-    let key-header = c .before .before .before .before .before .before .before .before .key-header in
-    let masked2 = c .before .before .before .before .before .before .before .before .before .masked2 in
-    let masked = c .before .before .before .before .before .before .before .before .before .before .before .masked in
-    let if1 = c .before .before .before .before .before .before .before .before .before .before .before .before .before .before .if1 in
-    let args = c .before .before .before .before .before .before .before .before .before .before .before .before .before .before .before .before .before .before .before .before .before .args in
-    let pre = c .before .before .before .before .before .before .before .before .before .before .before .before .before .before .before .before .before .before .before .before .before .pre in
-    let t = at-told _ _ _ (first-within .ensures) (found .given .1) in
-    pairs-told _ (args .pairs .now) (versions-answer (args .section .now) (args .o) (args .limit) (args .address) (key-header .ensures) (masked2 .ensures) (masked .ensures) (omega (arith, key-header .ensures, if1 .left, widths-le _ (pre .0 .widths))) ∙ t .0)
-    (omega (arith, put-version .ensures .0)) (put-version .ensures .1)
-
-returns-3 : tie.Need-returns-3
-unfolding KeyPut keyHeaderLenOf pairNumbers
-returns-3 c =
-    let enum-told = c .enum-told in
-    let first-within = c .before .before .first-within in
-    let key-header = c .before .before .before .key-header in
-    let masked2 = c .before .before .before .before .masked2 in
-    let masked = c .before .before .before .before .before .before .masked in
-    let if1 = c .before .before .before .before .before .before .before .before .before .if1 in
-    let args = c .before .before .before .before .before .before .before .before .before .before .before .before .before .before .before .before .args in
-    let pre = c .before .before .before .before .before .before .before .before .before .before .before .before .before .before .before .before .pre in
-    pairs-told _ (args .pairs .now) (versions-answer (args .section .now) (args .o) (args .limit) (args .address) (key-header .ensures) (masked2 .ensures) (masked .ensures) (omega (arith, key-header .ensures, if1 .left, widths-le _ (pre .0 .widths))) ∙ absent-told _ _ _ (first-within .ensures) (enum-told .given .1))
-    refl refl
-
-returns-4 : tie.Need-returns-4
-unfolding KeyPut
-returns-4 c = refl
+    let put-first = c .before .before .put-first in
+    let key-header = c .before .before .before .before .key-header in
+    let masked2 = c .before .before .before .before .before .masked2 in
+    let masked = c .before .before .before .before .before .before .before .masked in
+    let if1 = c .before .before .before .before .before .before .before .before .before .before .if1 in
+    let args = c .before .before .before .before .before .before .before .before .before .before .before .before .before .before .before .before .before .args in
+    let pre = c .before .before .before .before .before .before .before .before .before .before .before .before .before .before .before .before .before .pre in
+    let e = versions-answer (args .section .now) (args .o) (args .limit) (args .address) (key-header .ensures) (masked2 .ensures) (masked .ensures)
+    (omega (arith, key-header .ensures, if1 .left, widths-le _ (pre .0 .widths))) in
+    put-over (sym e) (put-first .result) (args .pairs .now) _ (put-first .ensures)
 
 pub put-key-spec : {M : Type 1} → statement M
 put-key-spec =
@@ -179,12 +140,6 @@ put-key-spec =
     key-header-requires
     add-from
     add-from-2
-    first-within-requires
-    enum-known-found
-    put-version-requires
-    enum-told
-    enum-told-2
+    put-first-requires
     same-length
-    returns-2
-    returns-3
-    returns-4)
+    returns-2)
