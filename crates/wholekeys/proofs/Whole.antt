@@ -9,11 +9,12 @@ use lib.Dec.{eqb}
 use lib.ListN.{length}
 use borrow.Author.Tests.{eqb-true, eqb-false}
 use Rattle.num.specs.Number.{Bytes, leAt}
-use Rattle.num.proofs.Choice.{oneOf-case}
+use Rattle.num.proofs.Choice.{both-true, oneOf-case}
 use Rattle.num.proofs.Number.{leAt-lt}
 use Rattle.encoding.specs.Encoding.{Widths, keyHeaderLenOf, versionLenOf}
 use Rattle.encoding.proofs.Widths.{widths-le}
 use Rattle.header.specs.declared.Opened.{Opened}
+use Rattle.header.specs.Internal.{usualWidths}
 use Rattle.arena.specs.Key.{keyHeaderAt}
 use Rattle.versions.specs.Version.{storedSeq}
 use Rattle.spans.specs.Span.{scanAddress}
@@ -119,3 +120,32 @@ module _ (s : List ℕ) (o : Opened) (first count : ℕ) (four : o .encoding .ad
         let d : suc (count - left) ≡ count - (left - 1) = omega arith in
         subst (λ (k : ℕ). SoFar s o first most k (at + (header + suffix) + versions * size)) d
         (subst⁻¹ (SoFar s o first most (suc (count - left))) key-end (more-so-far s o first most (count - left) next w (omega arith) (sym b ∙ a)))
+
+-- ---- a record of the usual widths
+
+-- a record whose widths, but for that of sequences, are replaced
+abbrev pub withWidths : Opened → ℕ → ℕ → ℕ → ℕ → Opened
+withWidths o address key count value =
+    record {
+      seed = o .seed;
+      «min_seq» = o .«min_seq»;
+      count = o .count;
+      buckets = o .buckets;
+      arena = o .arena;
+      encoding = record { address = address; key = key; count = count; seq = o .encoding .seq; value = value; checksum = o .encoding .checksum };
+      scan = o .scan;
+      packed = o .packed;
+    }
+
+-- with the usual ones in their place it is the same record
+pub usual-same : (o : Opened) → usualWidths (o .encoding) ≡ true → withWidths o 4 1 1 2 ≡ o
+unfolding usualWidths
+usual-same o t =
+    let e = o .encoding in
+    let a = both-true _ _ t in
+    let k = both-true _ _ (a .1) in
+    let n = both-true _ _ (k .1) in
+    ap (λ (w : ℕ). withWidths o w 1 1 2) (sym (eqb-true (e .address) 4 (a .0)))
+    ∙ ap (λ (w : ℕ). withWidths o (e .address) w 1 2) (sym (eqb-true (e .key) 1 (k .0)))
+    ∙ ap (λ (w : ℕ). withWidths o (e .address) (e .key) w 2) (sym (eqb-true (e .count) 1 (n .0)))
+    ∙ ap (λ (w : ℕ). withWidths o (e .address) (e .key) (e .count) w) (sym (eqb-true (e .value) 2 (n .1)))

@@ -3,10 +3,36 @@ ghost use mathlib.Core.Path.{_≡_};
 ghost use mathlib.Core.Bool.{true};
 ghost use Prim.Native.Nat.{_+_, _*_, _^_, _<_, _≤_};
 ghost use lib.ListN.{length};
+ghost use Rattle.header.specs.Internal.{usualWidths};
 ghost use Rattle.spans.specs.Internal.{Spannable};
 ghost use Rattle.wholekeys.specs.Internal.{WholeKeys};
 use encoding::Encoding;
 use header::Opened;
+
+// The same record, with the widths that most sections have as constants: for these the compiler then makes loops of their own.
+pub fn usual(o: Opened) -> Opened
+    requires { ⌜ usualWidths (o .encoding) ≡ true ⌝ }
+    ensures { λ r. ⌜ r ≡ o ⌝ }
+{
+    let e = o.encoding;
+    Opened {
+        seed: o.seed,
+        min_seq: o.min_seq,
+        count: o.count,
+        buckets: o.buckets,
+        arena: o.arena,
+        encoding: Encoding {
+            address: 4,
+            key: 1,
+            count: 1,
+            seq: e.seq,
+            value: 2,
+            checksum: e.checksum,
+        },
+        scan: o.scan,
+        packed: o.packed,
+    }
+}
 
 // Is every sequence sum below 2^64, whatever is stored?
 fn sums_fit(o: Opened) -> bool
@@ -16,7 +42,7 @@ fn sums_fit(o: Opened) -> bool
 }
 
 // Are the records of some keys whole, one behind the other, as their scan addresses say? Sums that might pass 2^64 are left to the walk from record to record.
-pub fn keys_whole(section: &[u8], o: Opened, first: u64, count: u64) -> bool
+fn records_whole(section: &[u8], o: Opened, first: u64, count: u64) -> bool
     requires { ⌜ Spannable o ⌝ }
     requires { ⌜ o .scan + 24 + 4 * (first + count) + 4 ≤ length (now section) ⌝ }
     ensures { λ r. ⌜ (r ≡ true → WholeKeys (now (section .entry)) o first count) ⌝ }
@@ -54,4 +80,15 @@ pub fn keys_whole(section: &[u8], o: Opened, first: u64, count: u64) -> bool
         left -= 1;
     }
     sound & (next <= most)
+}
+
+pub fn keys_whole(section: &[u8], o: Opened, first: u64, count: u64) -> bool
+    requires { ⌜ Spannable o ⌝ }
+    requires { ⌜ o .scan + 24 + 4 * (first + count) + 4 ≤ length (now section) ⌝ }
+    ensures { λ r. ⌜ (r ≡ true → WholeKeys (now (section .entry)) o first count) ⌝ }
+{
+    if header::usual_widths(o.encoding) {
+        return records_whole(section, usual(o), first, count);
+    }
+    records_whole(section, o, first, count)
 }

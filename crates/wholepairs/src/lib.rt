@@ -190,7 +190,7 @@ fn put_newest(
 }
 
 // Writes the values of some keys whose records are whole, and answers how many there are.
-pub fn put_whole(
+fn put_records(
     section: &[u8],
     o: Opened,
     first: u64,
@@ -223,4 +223,26 @@ pub fn put_whole(
         left -= 1;
     }
     to as u64 / 2
+}
+
+// The same, by loops of their own for the widths that most sections have.
+pub fn put_whole(
+    section: &[u8],
+    o: Opened,
+    first: u64,
+    count: u64,
+    limit: u64,
+    pairs: &mut [u64],
+) -> u64
+    requires { ⌜ Spannable o ⌝ }
+    requires { ⌜ o .scan + 24 + 4 * (first + count) + 4 ≤ length (now section) ⌝ }
+    requires { ⌜ WholeKeys (now section) o first count ⌝ }
+    requires { ⌜ 2 * count ≤ length (now pairs) ⌝ }
+    ensures { λ r. ⌜ (r ≡ length (pairsOf (valuesFrom count (now (section .entry)) o limit (scanAddress (now (section .entry)) o first))))
+        × (now (pairs .exit) ≡ sets (now (pairs .entry)) 0 (pairNumbers (pairsOf (valuesFrom count (now (section .entry)) o limit (scanAddress (now (section .entry)) o first))))) ⌝ }
+{
+    if header::usual_widths(o.encoding) {
+        return put_records(section, wholekeys::usual(o), first, count, limit, pairs);
+    }
+    put_records(section, o, first, count, limit, pairs)
 }

@@ -1,272 +1,60 @@
-use mathlib.Core.Path.{_≡_, refl, sym, ap, _∙_}
-use mathlib.Core.Bool.{true}
-use Prim.Native.Nat.{ℕ, _+_, _*_, _-_, _≤_}
+use mathlib.Core.Path.{sym, ap, _∙_, subst⁻¹}
+use mathlib.Core.List.{List}
 use native.Mathlib.Omega.{arith}
 use lib.ListN.{length}
 use lib.Seq.{sets}
-use Rattle.num.specs.Number.{leAt}
-use Rattle.encoding.proofs.Widths.{widths-le}
-use Rattle.arena.proofs.Reading.{widths-read}
-use Rattle.spans.specs.Span.{scanAddress, valuesFrom, pairNumbers}
-use Rattle.spans.specs.Internal.{isGiven, pairsOf}
-use Rattle.spans.proofs.Keys.{keys-none}
-use Rattle.wholekeys.proofs.Records.{key-given, key-stored}
-use Rattle.wholekeys.proofs.Whole.{tablePlace, table-address}
-use Rattle.wholepairs.proofs.Keys.{whole-given, header-room, versions-room, step-told}
+use Rattle.header.specs.declared.Opened.{Opened}
+use Rattle.spans.specs.Span.{Pair, scanAddress, valuesFrom, pairNumbers}
+use Rattle.spans.specs.Internal.{Spannable, pairsOf}
+use Rattle.wholekeys.specs.Internal.{WholeKeys}
 use borrow.Author.Needs.{needs}
 use Rattle.wholepairs.proofs.put_whole.Statement.{statement}
 use Rattle.wholepairs.proofs.put_whole.Tie as tie
 
-abbrev Inv-loop : tie.InvT-loop
-Inv-loop section o first count limit pairs₀ e key-mask count-mask header lengths table₀ to₀ left₀ pairs table to left = (left ≤ count)
-    × (table ≡ tablePlace o (first + (count - left)))
-    × (to + 2 * left ≤ length pairs)
-    × (length pairs ≡ length pairs₀)
-    × (isGiven (valuesFrom left section o limit (leAt section table 4)) ≡ true)
-    × (to + 2 * length (pairsOf (valuesFrom left section o limit (leAt section table 4))) ≡ 2 * length (pairsOf (valuesFrom count section o limit (scanAddress section o first))))
-    × (sets pairs to (pairNumbers (pairsOf (valuesFrom left section o limit (leAt section table 4)))) ≡ sets pairs₀ 0
-    (pairNumbers (pairsOf (valuesFrom count section o limit (scanAddress section o first)))))
+usual-widths-requires : tie.Need-usual-widths-requires
+usual-widths-requires c κs = search needs
 
-abbrev μ-loop : tie.MeasureT-loop
-μ-loop section o first count limit pairs₀ e key-mask count-mask header lengths table₀ to₀ left₀ pairs table to left = left
+usual-requires : tie.Need-usual-requires
+usual-requires c κs = sym (c .before .usual-widths .ensures) ∙ c .if1 .taken
 
-mask-requires : tie.Need-mask-requires Inv-loop μ-loop
-mask-requires c κs =
-    let pre = c .before .before .before .pre in
-    widths-read _ (pre .0 .widths) .1
+put-records-requires : tie.Need-put-records-requires
+put-records-requires c κs =
+    let e = c .before .usual .ensures in
+    let s = c .before .before .before .before .before .before in
+    let a = s .args in
+    (subst⁻¹ Spannable e (s .pre .0),
+    (omega (arith, ap (λ (o : Opened). o .scan) e, s .pre .1 .0),
+    (subst⁻¹ (λ (o : Opened). WholeKeys (a .section .now) o (a .first) (a .count)) e (s .pre .1 .1 .0), s .pre .1 .1 .1)))
 
-mask-requires-2 : tie.Need-mask-requires-2 Inv-loop μ-loop
-mask-requires-2 c κs =
-    let pre = c .before .before .before .before .pre in
-    widths-read _ (pre .0 .widths) .2
+same-length : tie.Need-same-length
+same-length c = search needs
 
-key-header-requires : tie.Need-key-header-requires Inv-loop μ-loop
-key-header-requires c κs =
-    let pre = c .before .before .before .before .before .pre in
-    pre .0 .widths
-
-add-lengths : tie.Need-add-lengths Inv-loop μ-loop
-add-lengths c =
-    let pre = c .before .before .before .before .before .before .before .pre in
-    let w = widths-le _ (pre .0 .widths) in
-    omega arith
-
-add-table : tie.Need-add-table Inv-loop μ-loop
-add-table c =
-    let pre = c .before .before .before .before .before .before .before .before .pre in
-    omega (arith, pre .1 .0)
-
-mul-table : tie.Need-mul-table Inv-loop μ-loop
-mul-table c =
-    let pre = c .before .before .before .before .before .before .before .before .pre in
-    omega (arith, pre .1 .0)
-
-add-table-2 : tie.Need-add-table-2 Inv-loop μ-loop
-add-table-2 c =
-    let pre = c .before .before .before .before .before .before .before .before .pre in
-    omega (arith, pre .1 .0)
-
-loop-holds : tie.Need-loop-holds Inv-loop μ-loop
-loop-holds c =
-    let shared-slice-known = c .before .before .before .before .before .before .before .shared-slice-known in
-    let args = c .before .before .before .before .before .before .before .before .args in
-    let pre = c .before .before .before .before .before .before .before .before .pre in
-    let at = table-address (args .section .now) (args .o) (pre .0 .four) (args .first) refl in
-    let given = whole-given (args .section .now) (args .o) (args .first) (args .count) (pre .1 .1 .0) (λ n. shared-slice-known .given n .fits)
-    (pre .0 .four) (args .limit) in
-    (omega arith, omega arith, omega (arith, pre .1 .1 .1), refl, rw at given, rw at (omega arith), rw at)
-
-u32-at-requires : tie.Need-u32-at-requires Inv-loop μ-loop
-u32-at-requires c κs =
-    let loop = c .before .loop in
-    let pre = c .before .before .before .before .before .before .before .before .before .before .pre in
-    omega (arith, loop .inv .0, loop .inv .1, pre .1 .0)
-
-cast-pos : tie.Need-cast-pos Inv-loop μ-loop
-cast-pos c = search needs
-
-add-pos : tie.Need-add-pos Inv-loop μ-loop
-add-pos c =
-    let pre = c .before .before .before .before .before .before .before .before .before .before .before .before .pre in
-    let a = pre .0 .arena in
-    omega arith
-
-add-masked : tie.Need-add-masked Inv-loop μ-loop
-add-masked c =
-    let pre = c .before .before .before .before .before .before .before .before .before .before .before .before .pre in
-    let a = pre .0 .arena in
-    let w = widths-le _ (pre .0 .widths) in
-    omega arith
-
-masked-requires : tie.Need-masked-requires Inv-loop μ-loop
-masked-requires c κs =
-    let u32-at = c .before .u32-at in
-    let loop = c .before .before .before .loop in
-    let mask = c .before .before .before .before .before .before .before .before .mask in
-    let args = c .before .before .before .before .before .before .before .before .before .before .before .before .args in
-    let pre = c .before .before .before .before .before .before .before .before .before .before .before .before .pre in
-    let r = header-room (args .section .now) (args .o) (args .first) (args .count) (pre .0 .four) (search needs) (loop .inv .0) (loop .inv .1)
-    (u32-at .ensures) (pre .1 .1 .0) in
-    (omega arith, (widths-read _ (pre .0 .widths) .1, mask .ensures))
-
-add-masked-2 : tie.Need-add-masked-2 Inv-loop μ-loop
-add-masked-2 c =
-    let pre = c .before .before .before .before .before .before .before .before .before .before .before .before .before .pre in
-    let a = pre .0 .arena in
-    let w = widths-le _ (pre .0 .widths) in
-    omega arith
-
-add-masked-3 : tie.Need-add-masked-3 Inv-loop μ-loop
-add-masked-3 c =
-    let pre = c .before .before .before .before .before .before .before .before .before .before .before .before .before .before .pre in
-    let a = pre .0 .arena in
-    let w = widths-le _ (pre .0 .widths) in
-    omega arith
-
-masked-requires-2 : tie.Need-masked-requires-2 Inv-loop μ-loop
-masked-requires-2 c κs =
-    let u32-at = c .before .before .before .u32-at in
-    let loop = c .before .before .before .before .before .loop in
-    let mask2 = c .before .before .before .before .before .before .before .before .before .mask2 in
-    let args = c .before .before .before .before .before .before .before .before .before .before .before .before .before .before .args in
-    let pre = c .before .before .before .before .before .before .before .before .before .before .before .before .before .before .pre in
-    let r = header-room (args .section .now) (args .o) (args .first) (args .count) (pre .0 .four) (search needs) (loop .inv .0) (loop .inv .1)
-    (u32-at .ensures) (pre .1 .1 .0) in
-    (r, (widths-read _ (pre .0 .widths) .2, mask2 .ensures))
-
-add-start : tie.Need-add-start Inv-loop μ-loop
-add-start c =
-    let masked2 = c .masked2 in
-    let masked = c .before .before .masked in
-    let u32-at = c .before .before .before .before .u32-at in
-    let loop = c .before .before .before .before .before .before .loop in
-    let key-header = c .before .before .before .before .before .before .before .before .before .key-header in
-    let args = c .before .before .before .before .before .before .before .before .before .before .before .before .before .before .before .args in
-    let good = c .before .before .before .before .before .before .before .before .before .before .before .before .before .before .before .good in
-    let pre = c .before .before .before .before .before .before .before .before .before .before .before .before .before .before .before .pre in
-    let r = versions-room (args .section .now) (args .o) (args .first) (args .count) (pre .0 .four) (search needs) (loop .inv .0) (loop .inv .1)
-    (u32-at .ensures) (args .limit) (key-header .ensures) refl (masked .ensures) (masked2 .ensures) (pre .1 .1 .0) in
-    omega (arith, r, good .0)
-
-add-put-newest : tie.Need-add-put-newest Inv-loop μ-loop
-add-put-newest c =
-    let masked2 = c .masked2 in
-    let masked = c .before .before .masked in
-    let u32-at = c .before .before .before .before .u32-at in
-    let loop = c .before .before .before .before .before .before .loop in
-    let key-header = c .before .before .before .before .before .before .before .before .before .key-header in
-    let args = c .before .before .before .before .before .before .before .before .before .before .before .before .before .before .before .args in
-    let good = c .before .before .before .before .before .before .before .before .before .before .before .before .before .before .before .good in
-    let pre = c .before .before .before .before .before .before .before .before .before .before .before .before .before .before .before .pre in
-    let r = versions-room (args .section .now) (args .o) (args .first) (args .count) (pre .0 .four) (search needs) (loop .inv .0) (loop .inv .1)
-    (u32-at .ensures) (args .limit) (key-header .ensures) refl (masked .ensures) (masked2 .ensures) (pre .1 .1 .0) in
-    omega (arith, r, good .0)
-
-put-newest-requires : tie.Need-put-newest-requires Inv-loop μ-loop
-put-newest-requires c κs =
-    let masked2 = c .before .masked2 in
-    let masked = c .before .before .before .masked in
-    let u32-at = c .before .before .before .before .before .u32-at in
-    let loop = c .before .before .before .before .before .before .before .loop in
-    let key-header = c .before .before .before .before .before .before .before .before .before .before .key-header in
-    let args = c .before .before .before .before .before .before .before .before .before .before .before .before .before .before .before .before .args in
-    let pre = c .before .before .before .before .before .before .before .before .before .before .before .before .before .before .before .before .pre in
-    let r = versions-room (args .section .now) (args .o) (args .first) (args .count) (pre .0 .four) (search needs) (loop .inv .0) (loop .inv .1)
-    (u32-at .ensures) (args .limit) (key-header .ensures) refl (masked .ensures) (masked2 .ensures) (pre .1 .1 .0) in
-    (pre .0, (pre .1 .1 .0 .sums, (r, omega (arith, loop .inv .2))))
-
-add-table-3 : tie.Need-add-table-3 Inv-loop μ-loop
-add-table-3 c =
-    let loop = c .before .before .before .before .before .before .before .before .before .before .loop in
-    let good = c .before .before .before .before .before .before .before .before .before .before .before .before .before .before .before .before .before .before .before .good in
-    let pre = c .before .before .before .before .before .before .before .before .before .before .before .before .before .before .before .before .before .before .before .pre in
-    omega (arith, loop .inv .0, loop .inv .1, pre .1 .0, good .0)
-
-sub-left : tie.Need-sub-left Inv-loop μ-loop
-sub-left c = search needs
-
-loop-less : tie.Need-loop-less Inv-loop μ-loop
-loop-less c = search needs
-
-loop-again : tie.Need-loop-again Inv-loop μ-loop
-loop-again c =
-    let put-newest = c .before .before .put-newest in
-    let masked2 = c .before .before .before .before .masked2 in
-    let masked = c .before .before .before .before .before .before .masked in
-    let u32-at = c .before .before .before .before .before .before .before .before .u32-at in
-    let loop-test = c .before .before .before .before .before .before .before .before .before .loop-test in
-    let loop = c .before .before .before .before .before .before .before .before .before .before .loop in
-    let key-header = c .before .before .before .before .before .before .before .before .before .before .before .before .before .key-header in
-    let shared-slice-known = c .before .before .before .before .before .before .before .before .before .before .before .before .before .before .before .before .before .before .shared-slice-known in
-    let args = c .before .before .before .before .before .before .before .before .before .before .before .before .before .before .before .before .before .before .before .args in
-    let pre = c .before .before .before .before .before .before .before .before .before .before .before .before .before .before .before .before .before .before .before .pre in
-    let g = ap (λ (a : ℕ). isGiven (valuesFrom (loop .left) (args .section .now) (args .o) (args .limit) a)) (u32-at .ensures) ∙ loop .inv .4 in
-    let some = loop-test .taken in
-    let f = key-given (args .section .now) (args .o) (args .limit) (u32-at .result) (key-header .ensures) refl (masked .ensures) (masked2 .ensures)
-    (loop .left) some g in
-    let k = key-stored (args .section .now) (args .o) (args .limit) (u32-at .result) (key-header .ensures) refl (masked .ensures) (masked2 .ensures)
-    (loop .left) some g (loop .pairs) (loop .to) (put-newest .ensures .0) (put-newest .ensures .1) in
-    let i = loop .inv in
-    let few = i .0 in
-    let place = i .1 in
-    let t = step-told (args .section .now) (args .o) (args .first) (args .count) (pre .0 .four) some few place (u32-at .ensures) (args .limit)
-    (key-header .ensures) refl (masked .ensures) (masked2 .ensures) (pre .1 .1 .0) (λ n. shared-slice-known .given n .fits) in
-    let same = u32-at .ensures in
-    let n = k .0 in
-    let l = k .1 in (
-      omega arith,
-      omega arith,
-      omega (arith, i .2),
-      l ∙ i .3,
-      sym (ap isGiven t) ∙ f .1,
-      rw (← t) (k .2 ∙ ap (λ (a : ℕ). loop .to + 2 * length (pairsOf (valuesFrom (loop .left) (args .section .now) (args .o) (args .limit) a))) same ∙ i .5),
-      rw (← t) (k .3 ∙ ap (λ (a : ℕ). sets (loop .pairs) (loop .to)
-          (pairNumbers (pairsOf (valuesFrom (loop .left) (args .section .now) (args .o) (args .limit) a)))) same ∙ i .6),
-    )
-
-same-length : tie.Need-same-length Inv-loop μ-loop
-same-length c =
-    let loop = c .before .loop in
-    loop .inv .3
-
-returns : tie.Need-returns Inv-loop μ-loop
-unfolding pairsOf pairNumbers
+returns : tie.Need-returns
 returns c =
-    let loop = c .before .loop in
-    let args = c .before .before .before .before .before .before .before .before .before .before .args in
-    let m = ap pairsOf (keys-none (args .section .now) (args .o) (args .limit) (leAt (args .section .now) (loop .table) 4) (loop .left) (search needs)) in
-    let i = loop .inv in
-    let n = rw m at (i .5) in
-    (omega arith, rw m at (i .6))
+    let e = c .before .before .before .before .usual .ensures in
+    let a = c .before .before .before .before .before .before .before .before .before .args in
+    let put = c .before .before .put-records .ensures in
+    let pairs : Opened → List Pair = λ o. pairsOf (valuesFrom (a .count) (a .section .now) o (a .limit) (scanAddress (a .section .now) o (a .first))) in
+    (put .0 ∙ ap (λ (o : Opened). length (pairs o)) e, put .1 ∙ ap (λ (o : Opened). sets (a .pairs .now) 0 (pairNumbers (pairs o))) e)
+
+put-records-requires-2 : tie.Need-put-records-requires-2
+put-records-requires-2 c κs = search needs
+
+same-length-2 : tie.Need-same-length-2
+same-length-2 c = search needs
+
+returns-2 : tie.Need-returns-2
+returns-2 c = search needs
 
 pub put-whole-spec : {M : Type 1} → statement M
 put-whole-spec =
     tie.close
     (tie.spec
-    Inv-loop
-    μ-loop
-    mask-requires
-    mask-requires-2
-    key-header-requires
-    add-lengths
-    add-table
-    mul-table
-    add-table-2
-    loop-holds
-    u32-at-requires
-    cast-pos
-    add-pos
-    add-masked
-    masked-requires
-    add-masked-2
-    add-masked-3
-    masked-requires-2
-    add-start
-    add-put-newest
-    put-newest-requires
-    add-table-3
-    sub-left
-    loop-less
-    loop-again
+    usual-widths-requires
+    usual-requires
+    put-records-requires
     same-length
-    returns)
+    returns
+    put-records-requires-2
+    same-length-2
+    returns-2)
