@@ -1,3 +1,4 @@
 pub mod Versions
 pub mod Keys
 pub mod First
+pub mod Low

@@ -157,13 +157,13 @@ pub fn put_key(
     put_first(section, o, versions, from, limit, pairs)
 }
 
-// Writes the value of the first of some versions within the limit, if there is one, and answers where the next pair goes.
+// Writes the value of the first of some versions whose stored sequence is at most `within`, if there is one, and answers where the next pair goes.
 fn put_newest(
     section: &[u8],
     o: Opened,
     versions: usize,
     from: usize,
-    limit: u64,
+    within: u64,
     pairs: &mut [u64],
     to: usize,
 ) -> usize
@@ -171,8 +171,8 @@ fn put_newest(
     requires { ⌜ ((pos : ℕ) → storedSeq (now section) o pos < 2 ^ 64) ⌝ }
     requires { ⌜ from + versions * versionLenOf (o .encoding) + 8 ≤ length (now section) ⌝ }
     requires { ⌜ to + 2 ≤ length (now pairs) ⌝ }
-    ensures { λ r. ⌜ (r ≡ to + 2 * length (pairsOf (firstWithin versions (now (section .entry)) o from limit)))
-        × (now (pairs .exit) ≡ sets (now (pairs .entry)) to (pairNumbers (pairsOf (firstWithin versions (now (section .entry)) o from limit)))) ⌝ }
+    ensures { λ r. ⌜ (r ≡ to + 2 * length (pairsOf (firstWithin versions (now (section .entry)) o from (o .«min_seq» + within))))
+        × (now (pairs .exit) ≡ sets (now (pairs .entry)) to (pairNumbers (pairsOf (firstWithin versions (now (section .entry)) o from (o .«min_seq» + within))))) ⌝ }
 {
     let e = o.encoding;
     let mask = words::mask(e.seq);
@@ -180,7 +180,7 @@ fn put_newest(
     let mut pos = from;
     let mut left = versions;
     while 0 < left {
-        if o.min_seq + words::masked(section, pos, e.seq, mask) <= limit {
+        if words::masked(section, pos, e.seq, mask) <= within {
             return put_version(section, o, pos, pairs, to);
         }
         pos += size;
@@ -189,21 +189,21 @@ fn put_newest(
     to
 }
 
-// Writes the values of some keys whose records are whole, and answers how many there are.
+// Writes the values of some keys whose records are whole, and answers how many places they take.
 fn put_records(
     section: &[u8],
     o: Opened,
     first: u64,
     count: u64,
-    limit: u64,
+    within: u64,
     pairs: &mut [u64],
-) -> u64
+) -> usize
     requires { ⌜ Spannable o ⌝ }
     requires { ⌜ o .scan + 24 + 4 * (first + count) + 4 ≤ length (now section) ⌝ }
     requires { ⌜ WholeKeys (now section) o first count ⌝ }
     requires { ⌜ 2 * count ≤ length (now pairs) ⌝ }
-    ensures { λ r. ⌜ (r ≡ length (pairsOf (valuesFrom count (now (section .entry)) o limit (scanAddress (now (section .entry)) o first))))
-        × (now (pairs .exit) ≡ sets (now (pairs .entry)) 0 (pairNumbers (pairsOf (valuesFrom count (now (section .entry)) o limit (scanAddress (now (section .entry)) o first))))) ⌝ }
+    ensures { λ r. ⌜ (r ≡ 2 * length (pairsOf (valuesFrom count (now (section .entry)) o (o .«min_seq» + within) (scanAddress (now (section .entry)) o first))))
+        × (now (pairs .exit) ≡ sets (now (pairs .entry)) 0 (pairNumbers (pairsOf (valuesFrom count (now (section .entry)) o (o .«min_seq» + within) (scanAddress (now (section .entry)) o first))))) ⌝ }
 {
     let e = o.encoding;
     let key_mask = words::mask(e.key);
@@ -218,14 +218,14 @@ fn put_records(
         let suffix_len = words::masked(section, pos + lengths, e.key, key_mask) as usize;
         let versions = words::masked(section, pos + lengths + e.key, e.count, count_mask) as usize;
         let start = header + suffix_len;
-        to = put_newest(section, o, versions, pos + start, limit, pairs, to);
+        to = put_newest(section, o, versions, pos + start, within, pairs, to);
         table += 4;
         left -= 1;
     }
-    to as u64 / 2
+    to
 }
 
-// The same, by loops of their own for the widths that most sections have.
+// Writes the values of some keys whose records are whole, and answers how many there are. The widths that most sections have get loops of their own.
 pub fn put_whole(
     section: &[u8],
     o: Opened,
@@ -241,8 +241,12 @@ pub fn put_whole(
     ensures { λ r. ⌜ (r ≡ length (pairsOf (valuesFrom count (now (section .entry)) o limit (scanAddress (now (section .entry)) o first))))
         × (now (pairs .exit) ≡ sets (now (pairs .entry)) 0 (pairNumbers (pairsOf (valuesFrom count (now (section .entry)) o limit (scanAddress (now (section .entry)) o first))))) ⌝ }
 {
-    if header::usual_widths(o.encoding) {
-        return put_records(section, wholekeys::usual(o), first, count, limit, pairs);
+    if limit < o.min_seq {
+        return 0;
     }
-    put_records(section, o, first, count, limit, pairs)
+    let within = limit - o.min_seq;
+    if header::usual_widths(o.encoding) {
+        return put_records(section, wholekeys::usual(o), first, count, within, pairs) as u64 / 2;
+    }
+    put_records(section, o, first, count, within, pairs) as u64 / 2
 }

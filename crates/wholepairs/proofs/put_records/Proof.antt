@@ -18,17 +18,17 @@ use Rattle.wholepairs.proofs.put_records.Statement.{statement}
 use Rattle.wholepairs.proofs.put_records.Tie as tie
 
 abbrev Inv-loop : tie.InvT-loop
-Inv-loop section o first count limit pairs₀ e key-mask count-mask header lengths table₀ to₀ left₀ pairs table to left = (left ≤ count)
+Inv-loop section o first count within pairs₀ e key-mask count-mask header lengths table₀ to₀ left₀ pairs table to left = (left ≤ count)
     × (table ≡ tablePlace o (first + (count - left)))
     × (to + 2 * left ≤ length pairs)
     × (length pairs ≡ length pairs₀)
-    × (isGiven (valuesFrom left section o limit (leAt section table 4)) ≡ true)
-    × (to + 2 * length (pairsOf (valuesFrom left section o limit (leAt section table 4))) ≡ 2 * length (pairsOf (valuesFrom count section o limit (scanAddress section o first))))
-    × (sets pairs to (pairNumbers (pairsOf (valuesFrom left section o limit (leAt section table 4)))) ≡ sets pairs₀ 0
-    (pairNumbers (pairsOf (valuesFrom count section o limit (scanAddress section o first)))))
+    × (isGiven (valuesFrom left section o (o .«min_seq» + within) (leAt section table 4)) ≡ true)
+    × (to + 2 * length (pairsOf (valuesFrom left section o (o .«min_seq» + within) (leAt section table 4))) ≡ 2 * length (pairsOf (valuesFrom count section o (o .«min_seq» + within) (scanAddress section o first))))
+    × (sets pairs to (pairNumbers (pairsOf (valuesFrom left section o (o .«min_seq» + within) (leAt section table 4)))) ≡ sets pairs₀ 0
+    (pairNumbers (pairsOf (valuesFrom count section o (o .«min_seq» + within) (scanAddress section o first)))))
 
 abbrev μ-loop : tie.MeasureT-loop
-μ-loop section o first count limit pairs₀ e key-mask count-mask header lengths table₀ to₀ left₀ pairs table to left = left
+μ-loop section o first count within pairs₀ e key-mask count-mask header lengths table₀ to₀ left₀ pairs table to left = left
 
 mask-requires : tie.Need-mask-requires Inv-loop μ-loop
 mask-requires c κs =
@@ -73,7 +73,7 @@ loop-holds c =
     let pre = c .before .before .before .before .before .before .before .before .pre in
     let at = table-address (args .section .now) (args .o) (pre .0 .four) (args .first) refl in
     let given = whole-given (args .section .now) (args .o) (args .first) (args .count) (pre .1 .1 .0) (λ n. shared-slice-known .given n .fits)
-    (pre .0 .four) (args .limit) in
+    (pre .0 .four) (args .o .«min_seq» + args .within) in
     (omega arith, omega arith, omega (arith, pre .1 .1 .1), refl, rw at given, rw at (omega arith), rw at)
 
 u32-at-requires : tie.Need-u32-at-requires Inv-loop μ-loop
@@ -145,7 +145,7 @@ add-start c =
     let good = c .before .before .before .before .before .before .before .before .before .before .before .before .before .before .before .good in
     let pre = c .before .before .before .before .before .before .before .before .before .before .before .before .before .before .before .pre in
     let r = versions-room (args .section .now) (args .o) (args .first) (args .count) (pre .0 .four) (search needs) (loop .inv .0) (loop .inv .1)
-    (u32-at .ensures) (args .limit) (key-header .ensures) refl (masked .ensures) (masked2 .ensures) (pre .1 .1 .0) in
+    (u32-at .ensures) (args .o .«min_seq» + args .within) (key-header .ensures) refl (masked .ensures) (masked2 .ensures) (pre .1 .1 .0) in
     omega (arith, r, good .0)
 
 add-put-newest : tie.Need-add-put-newest Inv-loop μ-loop
@@ -159,7 +159,7 @@ add-put-newest c =
     let good = c .before .before .before .before .before .before .before .before .before .before .before .before .before .before .before .good in
     let pre = c .before .before .before .before .before .before .before .before .before .before .before .before .before .before .before .pre in
     let r = versions-room (args .section .now) (args .o) (args .first) (args .count) (pre .0 .four) (search needs) (loop .inv .0) (loop .inv .1)
-    (u32-at .ensures) (args .limit) (key-header .ensures) refl (masked .ensures) (masked2 .ensures) (pre .1 .1 .0) in
+    (u32-at .ensures) (args .o .«min_seq» + args .within) (key-header .ensures) refl (masked .ensures) (masked2 .ensures) (pre .1 .1 .0) in
     omega (arith, r, good .0)
 
 put-newest-requires : tie.Need-put-newest-requires Inv-loop μ-loop
@@ -172,7 +172,7 @@ put-newest-requires c κs =
     let args = c .before .before .before .before .before .before .before .before .before .before .before .before .before .before .before .before .args in
     let pre = c .before .before .before .before .before .before .before .before .before .before .before .before .before .before .before .before .pre in
     let r = versions-room (args .section .now) (args .o) (args .first) (args .count) (pre .0 .four) (search needs) (loop .inv .0) (loop .inv .1)
-    (u32-at .ensures) (args .limit) (key-header .ensures) refl (masked .ensures) (masked2 .ensures) (pre .1 .1 .0) in
+    (u32-at .ensures) (args .o .«min_seq» + args .within) (key-header .ensures) refl (masked .ensures) (masked2 .ensures) (pre .1 .1 .0) in
     (pre .0, (pre .1 .1 .0 .sums, (r, omega (arith, loop .inv .2))))
 
 add-table-3 : tie.Need-add-table-3 Inv-loop μ-loop
@@ -200,16 +200,16 @@ loop-again c =
     let shared-slice-known = c .before .before .before .before .before .before .before .before .before .before .before .before .before .before .before .before .before .before .shared-slice-known in
     let args = c .before .before .before .before .before .before .before .before .before .before .before .before .before .before .before .before .before .before .before .args in
     let pre = c .before .before .before .before .before .before .before .before .before .before .before .before .before .before .before .before .before .before .before .pre in
-    let g = ap (λ (a : ℕ). isGiven (valuesFrom (loop .left) (args .section .now) (args .o) (args .limit) a)) (u32-at .ensures) ∙ loop .inv .4 in
+    let g = ap (λ (a : ℕ). isGiven (valuesFrom (loop .left) (args .section .now) (args .o) (args .o .«min_seq» + args .within) a)) (u32-at .ensures) ∙ loop .inv .4 in
     let some = loop-test .taken in
-    let f = key-given (args .section .now) (args .o) (args .limit) (u32-at .result) (key-header .ensures) refl (masked .ensures) (masked2 .ensures)
+    let f = key-given (args .section .now) (args .o) (args .o .«min_seq» + args .within) (u32-at .result) (key-header .ensures) refl (masked .ensures) (masked2 .ensures)
     (loop .left) some g in
-    let k = key-stored (args .section .now) (args .o) (args .limit) (u32-at .result) (key-header .ensures) refl (masked .ensures) (masked2 .ensures)
+    let k = key-stored (args .section .now) (args .o) (args .o .«min_seq» + args .within) (u32-at .result) (key-header .ensures) refl (masked .ensures) (masked2 .ensures)
     (loop .left) some g (loop .pairs) (loop .to) (put-newest .ensures .0) (put-newest .ensures .1) in
     let i = loop .inv in
     let few = i .0 in
     let place = i .1 in
-    let t = step-told (args .section .now) (args .o) (args .first) (args .count) (pre .0 .four) some few place (u32-at .ensures) (args .limit)
+    let t = step-told (args .section .now) (args .o) (args .first) (args .count) (pre .0 .four) some few place (u32-at .ensures) (args .o .«min_seq» + args .within)
     (key-header .ensures) refl (masked .ensures) (masked2 .ensures) (pre .1 .1 .0) (λ n. shared-slice-known .given n .fits) in
     let same = u32-at .ensures in
     let n = k .0 in
@@ -219,9 +219,9 @@ loop-again c =
       omega (arith, i .2),
       l ∙ i .3,
       sym (ap isGiven t) ∙ f .1,
-      rw (← t) (k .2 ∙ ap (λ (a : ℕ). loop .to + 2 * length (pairsOf (valuesFrom (loop .left) (args .section .now) (args .o) (args .limit) a))) same ∙ i .5),
+      rw (← t) (k .2 ∙ ap (λ (a : ℕ). loop .to + 2 * length (pairsOf (valuesFrom (loop .left) (args .section .now) (args .o) (args .o .«min_seq» + args .within) a))) same ∙ i .5),
       rw (← t) (k .3 ∙ ap (λ (a : ℕ). sets (loop .pairs) (loop .to)
-          (pairNumbers (pairsOf (valuesFrom (loop .left) (args .section .now) (args .o) (args .limit) a)))) same ∙ i .6),
+          (pairNumbers (pairsOf (valuesFrom (loop .left) (args .section .now) (args .o) (args .o .«min_seq» + args .within) a)))) same ∙ i .6),
     )
 
 same-length : tie.Need-same-length Inv-loop μ-loop
@@ -234,7 +234,7 @@ unfolding pairsOf pairNumbers
 returns c =
     let loop = c .before .loop in
     let args = c .before .before .before .before .before .before .before .before .before .before .args in
-    let m = ap pairsOf (keys-none (args .section .now) (args .o) (args .limit) (leAt (args .section .now) (loop .table) 4) (loop .left) (search needs)) in
+    let m = ap pairsOf (keys-none (args .section .now) (args .o) (args .o .«min_seq» + args .within) (leAt (args .section .now) (loop .table) 4) (loop .left) (search needs)) in
     let i = loop .inv in
     let n = rw m at (i .5) in
     (omega arith, rw m at (i .6))
