@@ -11,6 +11,7 @@ use borrow.Author.Tests.{le-leb}
 use Rattle.num.specs.Number.{Bytes, leAt}
 use Rattle.num.proofs.Choice.{true-both, if-true}
 use Rattle.num.proofs.Number.{leAt-lt}
+use Rattle.encoding.specs.declared.Encoding.{Encoding}
 use Rattle.encoding.specs.Encoding.{scanHeaderLen, keyHeaderLenOf, versionLenOf}
 use Rattle.header.specs.declared.Opened.{Opened}
 use Rattle.arena.specs.declared.KeyHeader.{KeyHeader}
@@ -23,6 +24,11 @@ use Rattle.wholekeys.specs.Internal.{recordEnd, keyEnd, WholeKeys}
 use Rattle.wholekeys.proofs.Records.{next-is}
 use Rattle.wholekeys.proofs.Whole.{tablePlace, table-address, address-is, key-end}
 use Rattle.wholepairs.proofs.Versions.{room-given}
+
+-- the bytes of a key header, summed up as code does
+pub header-sum : (e : Encoding) → e .address + e .key + e .key + e .count ≡ keyHeaderLenOf e
+unfolding keyHeaderLenOf
+header-sum e = omega arith
 
 module _ (s : List ℕ) (o : Opened) (first count : ℕ) (w : WholeKeys s o first count) (b : Bytes s) (four : o .encoding .address ≡ 4) where
   address-lt : (i : ℕ) → scanAddress s o i < 2 ^ 32

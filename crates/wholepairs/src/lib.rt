@@ -208,8 +208,8 @@ fn put_records(
     let e = o.encoding;
     let key_mask = words::mask(e.key);
     let count_mask = words::mask(e.count);
-    let header = e.key_header();
     let lengths = e.address + e.key;
+    let header = lengths + e.key + e.count;
     let mut table = o.scan + Encoding::SCAN_HEADER + 4 * first as usize;
     let mut to = 0;
     let mut left = count;

@@ -12,13 +12,13 @@ use Rattle.spans.specs.Internal.{isGiven, pairsOf}
 use Rattle.spans.proofs.Keys.{keys-none}
 use Rattle.wholekeys.proofs.Records.{key-given, key-stored}
 use Rattle.wholekeys.proofs.Whole.{tablePlace, table-address}
-use Rattle.wholepairs.proofs.Keys.{whole-given, header-room, versions-room, step-told}
+use Rattle.wholepairs.proofs.Keys.{header-sum, whole-given, header-room, versions-room, step-told}
 use borrow.Author.Needs.{needs}
 use Rattle.wholepairs.proofs.put_records.Statement.{statement}
 use Rattle.wholepairs.proofs.put_records.Tie as tie
 
 abbrev Inv-loop : tie.InvT-loop
-Inv-loop section o first count within pairs₀ e key-mask count-mask header lengths table₀ to₀ left₀ pairs table to left = (left ≤ count)
+Inv-loop section o first count within pairs₀ e key-mask count-mask lengths header table₀ to₀ left₀ pairs table to left = (left ≤ count)
     × (table ≡ tablePlace o (first + (count - left)))
     × (to + 2 * left ≤ length pairs)
     × (length pairs ≡ length pairs₀)
@@ -28,7 +28,7 @@ Inv-loop section o first count within pairs₀ e key-mask count-mask header leng
     (pairNumbers (pairsOf (valuesFrom count section o (o .«min_seq» + within) (scanAddress section o first)))))
 
 abbrev μ-loop : tie.MeasureT-loop
-μ-loop section o first count within pairs₀ e key-mask count-mask header lengths table₀ to₀ left₀ pairs table to left = left
+μ-loop section o first count within pairs₀ e key-mask count-mask lengths header table₀ to₀ left₀ pairs table to left = left
 
 mask-requires : tie.Need-mask-requires Inv-loop μ-loop
 mask-requires c κs =
@@ -40,37 +40,44 @@ mask-requires-2 c κs =
     let pre = c .before .before .before .before .pre in
     widths-read _ (pre .0 .widths) .2
 
-key-header-requires : tie.Need-key-header-requires Inv-loop μ-loop
-key-header-requires c κs =
-    let pre = c .before .before .before .before .before .pre in
-    pre .0 .widths
-
 add-lengths : tie.Need-add-lengths Inv-loop μ-loop
 add-lengths c =
+    let pre = c .before .before .before .before .before .before .pre in
+    let w = widths-le _ (pre .0 .widths) in
+    omega arith
+
+add-header : tie.Need-add-header Inv-loop μ-loop
+add-header c =
     let pre = c .before .before .before .before .before .before .before .pre in
+    let w = widths-le _ (pre .0 .widths) in
+    omega arith
+
+add-header-2 : tie.Need-add-header-2 Inv-loop μ-loop
+add-header-2 c =
+    let pre = c .before .before .before .before .before .before .before .before .pre in
     let w = widths-le _ (pre .0 .widths) in
     omega arith
 
 add-table : tie.Need-add-table Inv-loop μ-loop
 add-table c =
-    let pre = c .before .before .before .before .before .before .before .before .pre in
+    let pre = c .before .before .before .before .before .before .before .before .before .pre in
     omega (arith, pre .1 .0)
 
 mul-table : tie.Need-mul-table Inv-loop μ-loop
 mul-table c =
-    let pre = c .before .before .before .before .before .before .before .before .pre in
+    let pre = c .before .before .before .before .before .before .before .before .before .pre in
     omega (arith, pre .1 .0)
 
 add-table-2 : tie.Need-add-table-2 Inv-loop μ-loop
 add-table-2 c =
-    let pre = c .before .before .before .before .before .before .before .before .pre in
+    let pre = c .before .before .before .before .before .before .before .before .before .pre in
     omega (arith, pre .1 .0)
 
 loop-holds : tie.Need-loop-holds Inv-loop μ-loop
 loop-holds c =
-    let shared-slice-known = c .before .before .before .before .before .before .before .shared-slice-known in
-    let args = c .before .before .before .before .before .before .before .before .args in
-    let pre = c .before .before .before .before .before .before .before .before .pre in
+    let shared-slice-known = c .before .before .before .before .before .before .before .before .shared-slice-known in
+    let args = c .before .before .before .before .before .before .before .before .before .args in
+    let pre = c .before .before .before .before .before .before .before .before .before .pre in
     let at = table-address (args .section .now) (args .o) (pre .0 .four) (args .first) refl in
     let given = whole-given (args .section .now) (args .o) (args .first) (args .count) (pre .1 .1 .0) (λ n. shared-slice-known .given n .fits)
     (pre .0 .four) (args .o .«min_seq» + args .within) in
@@ -79,7 +86,7 @@ loop-holds c =
 u32-at-requires : tie.Need-u32-at-requires Inv-loop μ-loop
 u32-at-requires c κs =
     let loop = c .before .loop in
-    let pre = c .before .before .before .before .before .before .before .before .before .before .pre in
+    let pre = c .before .before .before .before .before .before .before .before .before .before .before .pre in
     omega (arith, loop .inv .0, loop .inv .1, pre .1 .0)
 
 cast-pos : tie.Need-cast-pos Inv-loop μ-loop
@@ -87,13 +94,13 @@ cast-pos c = search needs
 
 add-pos : tie.Need-add-pos Inv-loop μ-loop
 add-pos c =
-    let pre = c .before .before .before .before .before .before .before .before .before .before .before .before .pre in
+    let pre = c .before .before .before .before .before .before .before .before .before .before .before .before .before .pre in
     let a = pre .0 .arena in
     omega arith
 
 add-masked : tie.Need-add-masked Inv-loop μ-loop
 add-masked c =
-    let pre = c .before .before .before .before .before .before .before .before .before .before .before .before .pre in
+    let pre = c .before .before .before .before .before .before .before .before .before .before .before .before .before .pre in
     let a = pre .0 .arena in
     let w = widths-le _ (pre .0 .widths) in
     omega arith
@@ -102,23 +109,23 @@ masked-requires : tie.Need-masked-requires Inv-loop μ-loop
 masked-requires c κs =
     let u32-at = c .before .u32-at in
     let loop = c .before .before .before .loop in
-    let mask = c .before .before .before .before .before .before .before .before .mask in
-    let args = c .before .before .before .before .before .before .before .before .before .before .before .before .args in
-    let pre = c .before .before .before .before .before .before .before .before .before .before .before .before .pre in
+    let mask = c .before .before .before .before .before .before .before .before .before .mask in
+    let args = c .before .before .before .before .before .before .before .before .before .before .before .before .before .args in
+    let pre = c .before .before .before .before .before .before .before .before .before .before .before .before .before .pre in
     let r = header-room (args .section .now) (args .o) (args .first) (args .count) (pre .0 .four) (search needs) (loop .inv .0) (loop .inv .1)
     (u32-at .ensures) (pre .1 .1 .0) in
     (omega arith, (widths-read _ (pre .0 .widths) .1, mask .ensures))
 
 add-masked-2 : tie.Need-add-masked-2 Inv-loop μ-loop
 add-masked-2 c =
-    let pre = c .before .before .before .before .before .before .before .before .before .before .before .before .before .pre in
+    let pre = c .before .before .before .before .before .before .before .before .before .before .before .before .before .before .pre in
     let a = pre .0 .arena in
     let w = widths-le _ (pre .0 .widths) in
     omega arith
 
 add-masked-3 : tie.Need-add-masked-3 Inv-loop μ-loop
 add-masked-3 c =
-    let pre = c .before .before .before .before .before .before .before .before .before .before .before .before .before .before .pre in
+    let pre = c .before .before .before .before .before .before .before .before .before .before .before .before .before .before .before .pre in
     let a = pre .0 .arena in
     let w = widths-le _ (pre .0 .widths) in
     omega arith
@@ -127,9 +134,9 @@ masked-requires-2 : tie.Need-masked-requires-2 Inv-loop μ-loop
 masked-requires-2 c κs =
     let u32-at = c .before .before .before .u32-at in
     let loop = c .before .before .before .before .before .loop in
-    let mask2 = c .before .before .before .before .before .before .before .before .before .mask2 in
-    let args = c .before .before .before .before .before .before .before .before .before .before .before .before .before .before .args in
-    let pre = c .before .before .before .before .before .before .before .before .before .before .before .before .before .before .pre in
+    let mask2 = c .before .before .before .before .before .before .before .before .before .before .mask2 in
+    let args = c .before .before .before .before .before .before .before .before .before .before .before .before .before .before .before .args in
+    let pre = c .before .before .before .before .before .before .before .before .before .before .before .before .before .before .before .pre in
     let r = header-room (args .section .now) (args .o) (args .first) (args .count) (pre .0 .four) (search needs) (loop .inv .0) (loop .inv .1)
     (u32-at .ensures) (pre .1 .1 .0) in
     (r, (widths-read _ (pre .0 .widths) .2, mask2 .ensures))
@@ -140,12 +147,11 @@ add-start c =
     let masked = c .before .before .masked in
     let u32-at = c .before .before .before .before .u32-at in
     let loop = c .before .before .before .before .before .before .loop in
-    let key-header = c .before .before .before .before .before .before .before .before .before .key-header in
-    let args = c .before .before .before .before .before .before .before .before .before .before .before .before .before .before .before .args in
-    let good = c .before .before .before .before .before .before .before .before .before .before .before .before .before .before .before .good in
-    let pre = c .before .before .before .before .before .before .before .before .before .before .before .before .before .before .before .pre in
+    let args = c .before .before .before .before .before .before .before .before .before .before .before .before .before .before .before .before .args in
+    let good = c .before .before .before .before .before .before .before .before .before .before .before .before .before .before .before .before .good in
+    let pre = c .before .before .before .before .before .before .before .before .before .before .before .before .before .before .before .before .pre in
     let r = versions-room (args .section .now) (args .o) (args .first) (args .count) (pre .0 .four) (search needs) (loop .inv .0) (loop .inv .1)
-    (u32-at .ensures) (args .o .«min_seq» + args .within) (key-header .ensures) refl (masked .ensures) (masked2 .ensures) (pre .1 .1 .0) in
+    (u32-at .ensures) (args .o .«min_seq» + args .within) (header-sum (args .o .encoding)) refl (masked .ensures) (masked2 .ensures) (pre .1 .1 .0) in
     omega (arith, r, good .0)
 
 add-put-newest : tie.Need-add-put-newest Inv-loop μ-loop
@@ -154,12 +160,11 @@ add-put-newest c =
     let masked = c .before .before .masked in
     let u32-at = c .before .before .before .before .u32-at in
     let loop = c .before .before .before .before .before .before .loop in
-    let key-header = c .before .before .before .before .before .before .before .before .before .key-header in
-    let args = c .before .before .before .before .before .before .before .before .before .before .before .before .before .before .before .args in
-    let good = c .before .before .before .before .before .before .before .before .before .before .before .before .before .before .before .good in
-    let pre = c .before .before .before .before .before .before .before .before .before .before .before .before .before .before .before .pre in
+    let args = c .before .before .before .before .before .before .before .before .before .before .before .before .before .before .before .before .args in
+    let good = c .before .before .before .before .before .before .before .before .before .before .before .before .before .before .before .before .good in
+    let pre = c .before .before .before .before .before .before .before .before .before .before .before .before .before .before .before .before .pre in
     let r = versions-room (args .section .now) (args .o) (args .first) (args .count) (pre .0 .four) (search needs) (loop .inv .0) (loop .inv .1)
-    (u32-at .ensures) (args .o .«min_seq» + args .within) (key-header .ensures) refl (masked .ensures) (masked2 .ensures) (pre .1 .1 .0) in
+    (u32-at .ensures) (args .o .«min_seq» + args .within) (header-sum (args .o .encoding)) refl (masked .ensures) (masked2 .ensures) (pre .1 .1 .0) in
     omega (arith, r, good .0)
 
 put-newest-requires : tie.Need-put-newest-requires Inv-loop μ-loop
@@ -168,18 +173,17 @@ put-newest-requires c κs =
     let masked = c .before .before .before .masked in
     let u32-at = c .before .before .before .before .before .u32-at in
     let loop = c .before .before .before .before .before .before .before .loop in
-    let key-header = c .before .before .before .before .before .before .before .before .before .before .key-header in
-    let args = c .before .before .before .before .before .before .before .before .before .before .before .before .before .before .before .before .args in
-    let pre = c .before .before .before .before .before .before .before .before .before .before .before .before .before .before .before .before .pre in
+    let args = c .before .before .before .before .before .before .before .before .before .before .before .before .before .before .before .before .before .args in
+    let pre = c .before .before .before .before .before .before .before .before .before .before .before .before .before .before .before .before .before .pre in
     let r = versions-room (args .section .now) (args .o) (args .first) (args .count) (pre .0 .four) (search needs) (loop .inv .0) (loop .inv .1)
-    (u32-at .ensures) (args .o .«min_seq» + args .within) (key-header .ensures) refl (masked .ensures) (masked2 .ensures) (pre .1 .1 .0) in
+    (u32-at .ensures) (args .o .«min_seq» + args .within) (header-sum (args .o .encoding)) refl (masked .ensures) (masked2 .ensures) (pre .1 .1 .0) in
     (pre .0, (pre .1 .1 .0 .sums, (r, omega (arith, loop .inv .2))))
 
 add-table-3 : tie.Need-add-table-3 Inv-loop μ-loop
 add-table-3 c =
     let loop = c .before .before .before .before .before .before .before .before .before .before .loop in
-    let good = c .before .before .before .before .before .before .before .before .before .before .before .before .before .before .before .before .before .before .before .good in
-    let pre = c .before .before .before .before .before .before .before .before .before .before .before .before .before .before .before .before .before .before .before .pre in
+    let good = c .before .before .before .before .before .before .before .before .before .before .before .before .before .before .before .before .before .before .before .before .good in
+    let pre = c .before .before .before .before .before .before .before .before .before .before .before .before .before .before .before .before .before .before .before .before .pre in
     omega (arith, loop .inv .0, loop .inv .1, pre .1 .0, good .0)
 
 sub-left : tie.Need-sub-left Inv-loop μ-loop
@@ -196,21 +200,20 @@ loop-again c =
     let u32-at = c .before .before .before .before .before .before .before .before .u32-at in
     let loop-test = c .before .before .before .before .before .before .before .before .before .loop-test in
     let loop = c .before .before .before .before .before .before .before .before .before .before .loop in
-    let key-header = c .before .before .before .before .before .before .before .before .before .before .before .before .before .key-header in
-    let shared-slice-known = c .before .before .before .before .before .before .before .before .before .before .before .before .before .before .before .before .before .before .shared-slice-known in
-    let args = c .before .before .before .before .before .before .before .before .before .before .before .before .before .before .before .before .before .before .before .args in
-    let pre = c .before .before .before .before .before .before .before .before .before .before .before .before .before .before .before .before .before .before .before .pre in
+    let shared-slice-known = c .before .before .before .before .before .before .before .before .before .before .before .before .before .before .before .before .before .before .before .shared-slice-known in
+    let args = c .before .before .before .before .before .before .before .before .before .before .before .before .before .before .before .before .before .before .before .before .args in
+    let pre = c .before .before .before .before .before .before .before .before .before .before .before .before .before .before .before .before .before .before .before .before .pre in
     let g = ap (λ (a : ℕ). isGiven (valuesFrom (loop .left) (args .section .now) (args .o) (args .o .«min_seq» + args .within) a)) (u32-at .ensures) ∙ loop .inv .4 in
     let some = loop-test .taken in
-    let f = key-given (args .section .now) (args .o) (args .o .«min_seq» + args .within) (u32-at .result) (key-header .ensures) refl (masked .ensures) (masked2 .ensures)
+    let f = key-given (args .section .now) (args .o) (args .o .«min_seq» + args .within) (u32-at .result) (header-sum (args .o .encoding)) refl (masked .ensures) (masked2 .ensures)
     (loop .left) some g in
-    let k = key-stored (args .section .now) (args .o) (args .o .«min_seq» + args .within) (u32-at .result) (key-header .ensures) refl (masked .ensures) (masked2 .ensures)
+    let k = key-stored (args .section .now) (args .o) (args .o .«min_seq» + args .within) (u32-at .result) (header-sum (args .o .encoding)) refl (masked .ensures) (masked2 .ensures)
     (loop .left) some g (loop .pairs) (loop .to) (put-newest .ensures .0) (put-newest .ensures .1) in
     let i = loop .inv in
     let few = i .0 in
     let place = i .1 in
     let t = step-told (args .section .now) (args .o) (args .first) (args .count) (pre .0 .four) some few place (u32-at .ensures) (args .o .«min_seq» + args .within)
-    (key-header .ensures) refl (masked .ensures) (masked2 .ensures) (pre .1 .1 .0) (λ n. shared-slice-known .given n .fits) in
+    (header-sum (args .o .encoding)) refl (masked .ensures) (masked2 .ensures) (pre .1 .1 .0) (λ n. shared-slice-known .given n .fits) in
     let same = u32-at .ensures in
     let n = k .0 in
     let l = k .1 in (
@@ -233,7 +236,7 @@ returns : tie.Need-returns Inv-loop μ-loop
 unfolding pairsOf pairNumbers
 returns c =
     let loop = c .before .loop in
-    let args = c .before .before .before .before .before .before .before .before .before .before .args in
+    let args = c .before .before .before .before .before .before .before .before .before .before .before .args in
     let m = ap pairsOf (keys-none (args .section .now) (args .o) (args .o .«min_seq» + args .within) (leAt (args .section .now) (loop .table) 4) (loop .left) (search needs)) in
     let i = loop .inv in
     let n = rw m at (i .5) in
@@ -247,8 +250,9 @@ put-records-spec =
     μ-loop
     mask-requires
     mask-requires-2
-    key-header-requires
     add-lengths
+    add-header
+    add-header-2
     add-table
     mul-table
     add-table-2
