@@ -23,7 +23,7 @@ use Rattle.numbers.specs.Numbers.{openedOf, isRecordNumbers}
 use Rattle.held.specs.Held.{says}
 use Rattle.held.proofs.Exactly.{few-keys}
 use Rattle.spans.specs.Span.{scannable}
-use Rattle.usual.specs.Internal.{usualNumbers, fieldsMatch, startMatches, scanMatches, KeyCounted, ScanRecord}
+use Rattle.usual.specs.Internal.{usualNumbers, fieldsMatch, startMatches, scanMatches, ScanRecord}
 
 -- a number from 1 to 4 that is not 3 is a width of sequences
 seq-width : (w : ℕ) → 0 < w → w ≤ 4 → (w ≡ 3 → ⊥) → oneOf (1 ∷ 2 ∷ 4 ∷ 8 ∷ []) w ≡ true
@@ -147,11 +147,11 @@ module _ (s r : List ℕ) (u : Usual r) where
 
 -- the tests say that the numbers are a record, that the section gives it, and that it can be scanned
 module _ (s r : List ℕ) (bytes : Bytes s) (first buckets arena scan : ℕ) where
-  pub scan-record : KeyCounted s r first → begins s ≡ true → usualNumbers r ≡ true → fieldsMatch s r buckets ≡ true → startMatches s r arena scan ≡ true
+  pub scan-record : first < getD r 2 0 → begins s ≡ true → usualNumbers r ≡ true → fieldsMatch s r buckets ≡ true → startMatches s r arena scan ≡ true
       → scanMatches s (getD r 2 0) scan ≡ true → buckets ≡ (getD r 2 0 + 1) / 2 → arena ≡ 64 + 4 * buckets + 6 * getD r 2 0
       → scan + (37 + 4 * getD r 2 0) ≡ length s → ScanRecord s r first
   unfolding fieldsMatch startMatches says isRecordNumbers scannable openedOf
-  scan-record counted b n h t p halved starts room =
+  scan-record low b n h t p halved starts room =
       let u = usual-yes r n in
       let a = both-true _ _ t in
       let c = both-true _ _ (a .1) in
@@ -182,5 +182,5 @@ module _ (s r : List ℕ) (bytes : Bytes s) (first buckets arena scan : ℕ) whe
           unscanned = λ l. absurd (omega arith);
         }));
         scans = true-both _ _ (ap not plain) (true-both _ _ (ap not placed) (eq-eqb (getD r 5 0) 4 (u .address)));
-        below = counted .below;
+        below = low;
       }

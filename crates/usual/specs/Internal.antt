@@ -46,10 +46,9 @@ unfoldable pub scanMatches : List ℕ → ℕ → ℕ → Bool
 scanMatches s n scan =
     both (eqb (leAt s (length s - 13) 8) (24 + 4 * n)) (both (standsAt s scan scanMagic) (scanSettings s scan n))
 
--- the numbers count the key, and the section has room for the scan part of as many keys
-pub record KeyCounted (s r : List ℕ) (first : ℕ) : Type 0 where
-  pub below : first < getD r 2 0
-  pub room : 37 + 4 * getD r 2 0 ≤ length s
+-- the section reaches as far as a span reads of a key header, by the scan address at the key's place in a scan part
+unfoldable pub headerInside : List ℕ → List ℕ → ℕ → ℕ → Bool
+headerInside s r first scan = leb (getD r 4 0 + leAt s (scan + 24 + 4 * first) 4 + 14) (length s)
 
 -- 24 and 27 are answered with yes, and the numbers count the key
 pub record ScanRecord (s r : List ℕ) (first : ℕ) : Type 0 where

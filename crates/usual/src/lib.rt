@@ -4,7 +4,7 @@ ghost use mathlib.Core.Path.{_≡_};
 ghost use mathlib.Core.Bool.{true};
 ghost use Prim.Native.Nat.{_+_, _*_, _^_, _≤_, _<_};
 ghost use lib.ListN.{length};
-ghost use Rattle.usual.specs.Internal.{usualNumbers, fieldsMatch, startMatches, scanMatches, KeyCounted, ScanRecord};
+ghost use Rattle.usual.specs.Internal.{usualNumbers, fieldsMatch, startMatches, scanMatches, headerInside, ScanRecord};
 use encoding::Encoding;
 
 // The numbers alone: how many keys, the widths, the checksum flag, and not packed.
@@ -59,10 +59,25 @@ fn scan_matches(section: &[u8], n: u64, scan: usize) -> bool
             & header::scan_settings(section, scan, n as usize))
 }
 
-// Is the key counted by the numbers, and does the section reach as far as a span reads of its key header: four bytes, two lengths, and the word that
-// begins with the number of versions? The load of the key's address, the first that may have to wait for memory, is made here, before the tests of 24.
-fn header_inside(section: &[u8], numbers: &[u64; 16], first: u64) -> bool
-    ensures { λ r. ⌜ (r ≡ true → KeyCounted (now (section .entry)) (now (numbers .entry)) first) ⌝ }
+// Does the section reach as far as a span reads of a key header: four bytes, two lengths, and the word that begins with the number of versions? The
+// load of the key's address, the first that may have to wait for memory, is made here, before the tests of 24.
+fn header_inside(section: &[u8], numbers: &[u64; 16], first: u64, scan: u64) -> bool
+    requires { ⌜ scan + 24 + 4 * first + 4 ≤ length (now section) ⌝ }
+    ensures { λ r. ⌜ r ≡ headerInside (now (section .entry)) (now (numbers .entry)) first scan ⌝ }
+{
+    let all = section.len() as u64;
+    let arena = numbers[4];
+    if all < arena {
+        return false;
+    }
+    let address = num::u32_at(section, (scan + 24 + 4 * first) as usize) as u64;
+    arena + address + 14 <= all
+}
+
+// Are these numbers a record that the section gives, plain and with a scan part, and is the key one of those that it counts? A no says nothing: it is
+// also the answer to other widths, and to a key whose header is not inside the section.
+pub fn is_scan_record(section: &[u8], numbers: &[u64; 16], first: u64) -> bool
+    ensures { λ r. ⌜ (r ≡ true → ScanRecord (now (section .entry)) (now (numbers .entry)) first) ⌝ }
 {
     let n = numbers[2];
     if n <= first {
@@ -76,20 +91,8 @@ fn header_inside(section: &[u8], numbers: &[u64; 16], first: u64) -> bool
     if all < behind {
         return false;
     }
-    let arena = numbers[4];
-    if all < arena {
-        return false;
-    }
-    let address = num::u32_at(section, (all - behind + 24 + 4 * first) as usize) as u64;
-    arena + address + 14 <= all
-}
-
-// Are these numbers a record that the section gives, plain and with a scan part, and is the key one of those that it counts? A no says nothing: it is
-// also the answer to other widths, and to a key whose header is not inside the section.
-pub fn is_scan_record(section: &[u8], numbers: &[u64; 16], first: u64) -> bool
-    ensures { λ r. ⌜ (r ≡ true → ScanRecord (now (section .entry)) (now (numbers .entry)) first) ⌝ }
-{
-    if !header_inside(section, numbers, first) {
+    let scan = all - behind;
+    if !header_inside(section, numbers, first, scan) {
         return false;
     }
     if !header::begins(section) {
@@ -98,8 +101,6 @@ pub fn is_scan_record(section: &[u8], numbers: &[u64; 16], first: u64) -> bool
     if !usual_numbers(numbers) {
         return false;
     }
-    let n = numbers[2];
-    let scan = section.len() as u64 - (37 + 4 * n);
     let buckets = (n + 1) / 2;
     let arena = 64 + 4 * buckets + 6 * n;
     fields_match(section, numbers, buckets)

@@ -1,31 +1,23 @@
-use Rattle.num.proofs.Choice.{false-true}
+use mathlib.Core.Path.{sym, ap}
+use Prim.Native.Nat.{ℕ, _+_, _*_}
+use native.Mathlib.Omega.{arith}
+use lib.Dec.{leb}
+use lib.ListN.{length, getD}
+use borrow.Author.Tests.{lt-leb}
+use Rattle.num.specs.Number.{leAt}
+use Rattle.usual.specs.Internal.{headerInside}
 use borrow.Author.Needs.{needs}
 use Rattle.usual.proofs.header_inside.Statement.{statement}
 use Rattle.usual.proofs.header_inside.Tie as tie
 
-element-copy-out-n : tie.Need-element-copy-out-n
-element-copy-out-n c = search needs
-
-returns : tie.Need-returns
-returns c = false-true
-
-returns-2 : tie.Need-returns-2
-returns-2 c = false-true
-
-mul-behind : tie.Need-mul-behind
-mul-behind c = search needs
-
-add-behind : tie.Need-add-behind
-add-behind c = search needs
-
-returns-3 : tie.Need-returns-3
-returns-3 c = false-true
-
 element-copy-out-arena : tie.Need-element-copy-out-arena
 element-copy-out-arena c = search needs
 
-returns-4 : tie.Need-returns-4
-returns-4 c = false-true
+returns : tie.Need-returns
+unfolding headerInside
+returns c =
+    let a = c .before .before .before .args in
+    sym (lt-leb (getD (a .numbers .now) 4 0 + leAt (a .section .now) (a .scan + 24 + 4 * a .first) 4 + 14) (length (a .section .now)) (omega arith))
 
 add-u32-at : tie.Need-add-u32-at
 add-u32-at c = search needs
@@ -48,21 +40,18 @@ add-result c = search needs
 add-result-2 : tie.Need-add-result-2
 add-result-2 c = search needs
 
-returns-5 : tie.Need-returns-5
-returns-5 c = search needs
+returns-2 : tie.Need-returns-2
+unfolding headerInside
+returns-2 c =
+    let a = c .before .before .before .before .args in
+    ap (λ (n : ℕ). leb (getD (a .numbers .now) 4 0 + n + 14) (length (a .section .now))) (c .u32-at .ensures)
 
 pub header-inside-spec : {M : Type 1} → statement M
 header-inside-spec =
     tie.close
     (tie.spec
-    element-copy-out-n
-    returns
-    returns-2
-    mul-behind
-    add-behind
-    returns-3
     element-copy-out-arena
-    returns-4
+    returns
     add-u32-at
     mul-u32-at
     add-u32-at-2
@@ -70,4 +59,4 @@ header-inside-spec =
     cast-address
     add-result
     add-result-2
-    returns-5)
+    returns-2)
