@@ -15,9 +15,9 @@ use Rattle.numbers.specs.Numbers.{openedOf}
 use Rattle.spans.specs.declared.Spanned.the-variants.{Pairs}
 use Rattle.spans.specs.Span.{Pair, scanAddress, valuesFrom, pairsWritten, spannedRead}
 use Rattle.spans.specs.Internal.{Spannable}
-use Rattle.wholepairs.specs.Internal.{KeyPut}
-use Rattle.wholepairs.specs.declared.KeyWritten.{KeyWritten}
-use Rattle.wholepairs.specs.declared.KeyWritten.the-variants.{Written, Left}
+use Rattle.onekey.specs.Internal.{KeyPut}
+use Rattle.onekey.specs.declared.KeyWritten.{KeyWritten}
+use Rattle.onekey.specs.declared.KeyWritten.the-variants.{Written, Left}
 use Rattle.usual.specs.Internal.{ScanRecord}
 use Rattle.scans.specs.Spans.{spanOfNumbers}
 use Rattle.scans.proofs.Asked.{spannable, table-inside, read-from, told-of, walked}

@@ -8,14 +8,14 @@ ghost use Rattle.opened.specs.Opened.{isRecord};
 ghost use Rattle.spans.specs.Span.{scannable, scanAddress, valuesFrom, spanOf, pairsWritten, spannedRead, spannedNumber};
 ghost use Rattle.spans.specs.Internal.{Spannable};
 ghost use Rattle.numbers.specs.Numbers.{openedOf};
-ghost use Rattle.wholepairs.specs.Internal.{KeyPut};
+ghost use Rattle.onekey.specs.Internal.{KeyPut};
 ghost use Rattle.usual.specs.Internal.{ScanRecord};
 ghost use Rattle.scans.specs.Spans.{spanOfNumbers, foundWritten};
 ghost use Rattle.scans.specs.Internal.{foundRead};
 use encoding::Encoding;
 use header::Opened;
+use onekey::KeyWritten;
 use spans::Spanned;
-use wholepairs::KeyWritten;
 
 // Question 27.
 fn scannable(o: Opened) -> bool
@@ -164,7 +164,7 @@ fn one_key(
     let o = numbers::read_record(numbers);
     let table = o.scan + Encoding::SCAN_HEADER + 4 * first as usize;
     let address = num::u32_at(section, table) as usize;
-    wholepairs::put_key(section, o, address, limit, pairs)
+    onekey::put_key(section, o, address, limit, pairs)
 }
 
 // The span over sixteen numbers. The result is 0, or the number of the question that failed; how many pairs there are goes to `found`.

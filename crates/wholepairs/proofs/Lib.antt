@@ -1,4 +1,3 @@
 pub mod Versions
 pub mod Keys
-pub mod First
 pub mod Low

@@ -1,8 +1,8 @@
 use mathlib.Core.Path.{refl}
 use native.Mathlib.Omega.{arith}
 use lib.ListN.{length}
-use Rattle.wholepairs.specs.Internal.{KeyPut}
-use Rattle.wholepairs.proofs.First.{put-over}
+use Rattle.onekey.specs.Internal.{KeyPut}
+use Rattle.onekey.proofs.First.{put-over}
 use Rattle.scans.proofs.One.{one-table, one-spannable, one-is}
 use borrow.Author.Needs.{needs}
 use Rattle.scans.proofs.one_key.Statement.{statement}

@@ -7,10 +7,10 @@ use Rattle.arena.proofs.Reading.{widths-read, version-le}
 use Rattle.locator.proofs.Versions.{stored-sum}
 use Rattle.spans.specs.Span.{valueEnd, firstWithin}
 use Rattle.spans.proofs.Values.{value-within, value-above, value-none, met-inside}
-use Rattle.wholepairs.specs.Internal.{VersionTold}
+use Rattle.onekey.specs.Internal.{VersionTold}
 use borrow.Author.Needs.{needs}
-use Rattle.wholepairs.proofs.first_within.Statement.{statement}
-use Rattle.wholepairs.proofs.first_within.Tie as tie
+use Rattle.onekey.proofs.first_within.Statement.{statement}
+use Rattle.onekey.proofs.first_within.Tie as tie
 
 abbrev Inv-loop : tie.InvT-loop
 Inv-loop section o versions from limit e mask size end most pos₀ left₀ pos left = (pos ≤ from + length section + 24)

@@ -3,11 +3,11 @@ use native.Mathlib.Omega.{arith}
 use Rattle.encoding.specs.Encoding.{keyHeaderLenOf}
 use Rattle.encoding.proofs.Widths.{widths-le}
 use Rattle.arena.proofs.Reading.{widths-read}
-use Rattle.wholepairs.specs.Internal.{KeyPut}
-use Rattle.wholepairs.proofs.First.{version-small, versions-answer, put-over}
+use Rattle.onekey.specs.Internal.{KeyPut}
+use Rattle.onekey.proofs.First.{version-small, versions-answer, put-over}
 use borrow.Author.Needs.{needs}
-use Rattle.wholepairs.proofs.put_key.Statement.{statement}
-use Rattle.wholepairs.proofs.put_key.Tie as tie
+use Rattle.onekey.proofs.put_key.Statement.{statement}
+use Rattle.onekey.proofs.put_key.Tie as tie
 
 add-pos : tie.Need-add-pos
 add-pos c = search needs

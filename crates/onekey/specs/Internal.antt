@@ -7,10 +7,10 @@ use Rattle.num.specs.Answer.{Answer, given}
 use Rattle.header.specs.declared.Opened.{Opened}
 use Rattle.spans.specs.declared.Spanned.the-variants.{Pairs}
 use Rattle.spans.specs.Span.{Pair, valueEnd, valueAt, pairsWritten, spannedRead}
-use Rattle.wholepairs.specs.declared.VersionFound.{VersionFound}
-use Rattle.wholepairs.specs.declared.VersionFound.the-variants as found
-use Rattle.wholepairs.specs.declared.KeyWritten.{KeyWritten}
-use Rattle.wholepairs.specs.declared.KeyWritten.the-variants.{Written, Left}
+use Rattle.onekey.specs.declared.VersionFound.{VersionFound}
+use Rattle.onekey.specs.declared.VersionFound.the-variants as found
+use Rattle.onekey.specs.declared.KeyWritten.{KeyWritten}
+use Rattle.onekey.specs.declared.KeyWritten.the-variants.{Written, Left}
 
 -- the answer of some versions by what was found of them; a version that was found has eight bytes behind what a span reads of it
 unfoldable pub VersionTold : VersionFound → List ℕ → Opened → Answer (List Pair) → Type 0

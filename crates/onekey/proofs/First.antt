@@ -14,10 +14,10 @@ use Rattle.spans.specs.Span.{Pair, valueEnd, valueAt, firstWithin, valuesFrom}
 use Rattle.spans.specs.Internal.{Spannable}
 use Rattle.spans.proofs.Keys.{one-key}
 use Rattle.wholekeys.proofs.Records.{record-bounds, found-is}
-use Rattle.wholepairs.specs.declared.VersionFound.{VersionFound}
-use Rattle.wholepairs.specs.declared.VersionFound.the-variants as found
-use Rattle.wholepairs.specs.declared.KeyWritten.{KeyWritten}
-use Rattle.wholepairs.specs.Internal.{VersionTold, KeyPut}
+use Rattle.onekey.specs.declared.VersionFound.{VersionFound}
+use Rattle.onekey.specs.declared.VersionFound.the-variants as found
+use Rattle.onekey.specs.declared.KeyWritten.{KeyWritten}
+use Rattle.onekey.specs.Internal.{VersionTold, KeyPut}
 
 module _ (s : List ℕ) (o : Opened) (limit at : ℕ) {header suffix versions : ℕ} (eh : header ≡ keyHeaderLenOf (o .encoding))
     (ex : suffix ≡ leAt s (o .arena + at + (o .encoding .address + o .encoding .key)) (o .encoding .key))

@@ -1,8 +1,8 @@
 use mathlib.Core.Path.{sym, ap, _∙_}
 use Rattle.num.specs.Number.{leAt}
 use borrow.Author.Needs.{needs}
-use Rattle.wholepairs.proofs.seq_at.Statement.{statement}
-use Rattle.wholepairs.proofs.seq_at.Tie as tie
+use Rattle.onekey.proofs.seq_at.Statement.{statement}
+use Rattle.onekey.proofs.seq_at.Tie as tie
 
 u16-at-requires : tie.Need-u16-at-requires
 u16-at-requires c κs = search needs

@@ -7,11 +7,11 @@ use Rattle.locator.proofs.Versions.{stored-sum}
 use Rattle.spans.specs.Span.{valueEnd, firstWithin, pairNumbers}
 use Rattle.spans.proofs.Keys.{pairs-told}
 use Rattle.spans.proofs.Values.{value-within, value-above, met-inside}
-use Rattle.wholepairs.specs.Internal.{KeyPut}
-use Rattle.wholepairs.proofs.First.{at-told, absent-told}
+use Rattle.onekey.specs.Internal.{KeyPut}
+use Rattle.onekey.proofs.First.{at-told, absent-told}
 use borrow.Author.Needs.{needs}
-use Rattle.wholepairs.proofs.put_first.Statement.{statement}
-use Rattle.wholepairs.proofs.put_first.Tie as tie
+use Rattle.onekey.proofs.put_first.Statement.{statement}
+use Rattle.onekey.proofs.put_first.Tie as tie
 
 returns : tie.Need-returns
 unfolding KeyPut
