@@ -166,7 +166,7 @@ uint64_t kiban_value(const uint8_t *data, size_t data_len, uint64_t offset, uint
 /* The values of `count` neighbouring keys from key `first` on (counted from 0, in key order) under a limit: of each key's version of greatest
  * sequence not above the limit, unless that is a tombstone. On 0 the pairs (offset, length) stand in key order in the first 2 * `*found`
  * places, and the places behind them are kept. For sections with a scan part and 4-byte addresses,
- * opened plain (27). No entry tells the place of a key among the keys. Stack: 793 bytes, 408 for one
+ * opened plain (27). No entry tells the place of a key among the keys. Stack: 770 bytes, 408 for one
  * key of a section whose widths are 4, 1, 1, at most 4, and 2. */
 uint64_t kiban_span(const uint8_t *section, size_t section_len, const uint64_t record[KIBAN_RECORD],
                     uint64_t first, uint64_t count, uint64_t limit, uint64_t *pairs, size_t pairs_len, uint64_t *found);

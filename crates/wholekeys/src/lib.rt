@@ -82,6 +82,7 @@ fn records_whole(section: &[u8], o: Opened, first: u64, count: u64) -> bool
     sound & (next <= most)
 }
 
+// The same question; the widths that most sections have get a loop of their own.
 pub fn keys_whole(section: &[u8], o: Opened, first: u64, count: u64) -> bool
     requires { ⌜ Spannable o ⌝ }
     requires { ⌜ o .scan + 24 + 4 * (first + count) + 4 ≤ length (now section) ⌝ }
