@@ -41,6 +41,14 @@ fn sums_fit(o: Opened) -> bool
     (o.encoding.seq <= 4) & (o.min_seq < 0x8000_0000_0000_0000)
 }
 
+// The address behind a key record, whose versions begin `start` bytes behind its own.
+fn record_end(at: usize, start: usize, versions: usize, size: usize) -> usize
+    requires { ⌜ at + start + versions * size < 2 ^ 40 ⌝ }
+    ensures { λ r. ⌜ r ≡ at + start + versions * size ⌝ }
+{
+    at + start + versions * size
+}
+
 // Are the records of some keys whole, one behind the other, as their scan addresses say? Sums that might pass 2^64 are left to the walk from record to record.
 fn records_whole(section: &[u8], o: Opened, first: u64, count: u64) -> bool
     requires { ⌜ Spannable o ⌝ }
@@ -75,7 +83,7 @@ fn records_whole(section: &[u8], o: Opened, first: u64, count: u64) -> bool
         let versions = words::masked(section, pos + e.key, e.count, count_mask) as usize;
         // No branch here: behind one on `at == next` the compiler takes `next` for `at`, and each load needs the one before.
         sound = sound & (at == next);
-        next = at + (header + suffix_len) + versions * size;
+        next = record_end(at, header + suffix_len, versions, size);
         table += 4;
         left -= 1;
     }

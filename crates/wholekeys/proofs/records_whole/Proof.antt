@@ -1,4 +1,4 @@
-use mathlib.Core.Path.{_≡_}
+use mathlib.Core.Path.{_≡_, subst⁻¹}
 use mathlib.Core.Bool.{true}
 use Prim.Native.Nat.{_+_, _-_, _≤_}
 use native.Mathlib.Omega.{arith}
@@ -154,8 +154,8 @@ masked-requires-2 c κs =
     let w = widths-le _ (pre .0 .widths) in
     (omega arith, (widths-read _ (pre .0 .widths) .2, mask2 .ensures))
 
-add-next : tie.Need-add-next Inv-loop μ-loop
-add-next c =
+add-record-end : tie.Need-add-record-end Inv-loop μ-loop
+add-record-end c =
     let masked2 = c .masked2 in
     let masked = c .before .before .masked in
     let u32-at2 = c .before .before .before .before .before .u32-at2 in
@@ -170,8 +170,8 @@ add-next c =
     (pre .0 .widths) in
     omega arith
 
-add-next-2 : tie.Need-add-next-2 Inv-loop μ-loop
-add-next-2 c =
+record-end-requires : tie.Need-record-end-requires Inv-loop μ-loop
+record-end-requires c κs =
     let masked2 = c .masked2 in
     let masked = c .before .before .masked in
     let u32-at2 = c .before .before .before .before .before .u32-at2 in
@@ -181,48 +181,15 @@ add-next-2 c =
     let shared-slice-known = c .before .before .before .before .before .before .before .before .before .before .before .before .before .before .before .before .before .before .before .before .before .shared-slice-known in
     let args = c .before .before .before .before .before .before .before .before .before .before .before .before .before .before .before .before .before .before .before .before .before .before .args in
     let pre = c .before .before .before .before .before .before .before .before .before .before .before .before .before .before .before .before .before .before .before .before .before .before .pre in
-    let l = key-small (args .section .now) (args .o) (args .first) (args .count) (pre .0 .four) (search needs) (loop .inv .0) (loop .inv .1)
+    key-small (args .section .now) (args .o) (args .first) (args .count) (pre .0 .four) (search needs) (loop .inv .0) (loop .inv .1)
     (u32-at2 .ensures) 0 (key-header .ensures) (version .ensures) (masked .ensures) (masked2 .ensures) (λ n. shared-slice-known .given n .fits)
-    (pre .0 .widths) in
-    omega arith
-
-mul-next : tie.Need-mul-next Inv-loop μ-loop
-mul-next c =
-    let masked2 = c .masked2 in
-    let masked = c .before .before .masked in
-    let u32-at2 = c .before .before .before .before .before .u32-at2 in
-    let loop = c .before .before .before .before .before .before .before .loop in
-    let version = c .before .before .before .before .before .before .before .before .before .before .before .before .before .before .version in
-    let key-header = c .before .before .before .before .before .before .before .before .before .before .before .before .before .before .before .key-header in
-    let shared-slice-known = c .before .before .before .before .before .before .before .before .before .before .before .before .before .before .before .before .before .before .before .before .before .shared-slice-known in
-    let args = c .before .before .before .before .before .before .before .before .before .before .before .before .before .before .before .before .before .before .before .before .before .before .args in
-    let pre = c .before .before .before .before .before .before .before .before .before .before .before .before .before .before .before .before .before .before .before .before .before .before .pre in
-    let l = key-small (args .section .now) (args .o) (args .first) (args .count) (pre .0 .four) (search needs) (loop .inv .0) (loop .inv .1)
-    (u32-at2 .ensures) 0 (key-header .ensures) (version .ensures) (masked .ensures) (masked2 .ensures) (λ n. shared-slice-known .given n .fits)
-    (pre .0 .widths) in
-    omega arith
-
-add-next-3 : tie.Need-add-next-3 Inv-loop μ-loop
-add-next-3 c =
-    let masked2 = c .masked2 in
-    let masked = c .before .before .masked in
-    let u32-at2 = c .before .before .before .before .before .u32-at2 in
-    let loop = c .before .before .before .before .before .before .before .loop in
-    let version = c .before .before .before .before .before .before .before .before .before .before .before .before .before .before .version in
-    let key-header = c .before .before .before .before .before .before .before .before .before .before .before .before .before .before .before .key-header in
-    let shared-slice-known = c .before .before .before .before .before .before .before .before .before .before .before .before .before .before .before .before .before .before .before .before .before .shared-slice-known in
-    let args = c .before .before .before .before .before .before .before .before .before .before .before .before .before .before .before .before .before .before .before .before .before .before .args in
-    let pre = c .before .before .before .before .before .before .before .before .before .before .before .before .before .before .before .before .before .before .before .before .before .before .pre in
-    let l = key-small (args .section .now) (args .o) (args .first) (args .count) (pre .0 .four) (search needs) (loop .inv .0) (loop .inv .1)
-    (u32-at2 .ensures) 0 (key-header .ensures) (version .ensures) (masked .ensures) (masked2 .ensures) (λ n. shared-slice-known .given n .fits)
-    (pre .0 .widths) in
-    omega arith
+    (pre .0 .widths)
 
 add-table-3 : tie.Need-add-table-3 Inv-loop μ-loop
 add-table-3 c =
-    let loop = c .before .before .before .before .before .before .before .loop in
-    let good = c .before .before .before .before .before .before .before .before .before .before .before .before .before .before .before .before .before .before .before .before .before .before .good in
-    let pre = c .before .before .before .before .before .before .before .before .before .before .before .before .before .before .before .before .before .before .before .before .before .before .pre in
+    let loop = c .before .before .before .before .before .before .before .before .loop in
+    let good = c .before .before .before .before .before .before .before .before .before .before .before .before .before .before .before .before .before .before .before .before .before .before .before .good in
+    let pre = c .before .before .before .before .before .before .before .before .before .before .before .before .before .before .before .before .before .before .before .before .before .before .before .pre in
     omega (arith, loop .inv .0, loop .inv .1, pre .1, good .0)
 
 sub-left : tie.Need-sub-left Inv-loop μ-loop
@@ -234,22 +201,23 @@ loop-less c = search needs
 loop-again : tie.Need-loop-again Inv-loop μ-loop
 unfolding both
 loop-again c =
-    let masked2 = c .masked2 in
-    let masked = c .before .before .masked in
-    let u32-at2 = c .before .before .before .before .before .u32-at2 in
-    let loop = c .before .before .before .before .before .before .before .loop in
-    let version = c .before .before .before .before .before .before .before .before .before .before .before .before .before .before .version in
-    let key-header = c .before .before .before .before .before .before .before .before .before .before .before .before .before .before .before .key-header in
-    let args = c .before .before .before .before .before .before .before .before .before .before .before .before .before .before .before .before .before .before .before .before .before .before .args in
-    let pre = c .before .before .before .before .before .before .before .before .before .before .before .before .before .before .before .before .before .before .before .before .before .before .pre in
+    let masked2 = c .before .masked2 in
+    let masked = c .before .before .before .masked in
+    let u32-at2 = c .before .before .before .before .before .before .u32-at2 in
+    let loop = c .before .before .before .before .before .before .before .before .loop in
+    let version = c .before .before .before .before .before .before .before .before .before .before .before .before .before .before .before .version in
+    let key-header = c .before .before .before .before .before .before .before .before .before .before .before .before .before .before .before .before .key-header in
+    let args = c .before .before .before .before .before .before .before .before .before .before .before .before .before .before .before .before .before .before .before .before .before .before .before .args in
+    let pre = c .before .before .before .before .before .before .before .before .before .before .before .before .before .before .before .before .before .before .before .before .before .before .before .pre in
     let few = loop .inv .0 in
     let place = loop .inv .1 in (
       omega arith,
       omega arith,
       λ e. let b = both-true (loop .sound) (eqb (u32-at2 .result) (loop .next)) e in
-          step-so-far (args .section .now) (args .o) (args .first) (args .count) (pre .0 .four) (search needs) few place (u32-at2 .ensures) 0
+          subst⁻¹ (SoFar (args .section .now) (args .o) (args .first) _ _) (c .record-end .ensures)
+          (step-so-far (args .section .now) (args .o) (args .first) (args .count) (pre .0 .four) (search needs) few place (u32-at2 .ensures) 0
           (key-header .ensures) (version .ensures) (masked .ensures) (masked2 .ensures)
-          (search needs) (eqb-true _ _ (b .1)) (loop .inv .2 (b .0)),
+          (search needs) (eqb-true _ _ (b .1)) (loop .inv .2 (b .0))),
     )
 
 returns-4 : tie.Need-returns-4 Inv-loop μ-loop
@@ -299,10 +267,8 @@ records-whole-spec =
     masked-requires
     add-masked
     masked-requires-2
-    add-next
-    add-next-2
-    mul-next
-    add-next-3
+    add-record-end
+    record-end-requires
     add-table-3
     sub-left
     loop-less
