@@ -1,5 +1,5 @@
 -- Not on the reading path: the tests of `is_scan_record`, as code asks them.
-use Prim.Native.Nat.{ℕ, _+_, _*_, _-_, _^_, _<_, _≤_}
+use Prim.Native.Nat.{ℕ, _+_, _*_, _-_, _^_, _<_}
 use mathlib.Core.Path.{_≡_}
 use mathlib.Core.List.{List}
 use mathlib.Core.Bool.{Bool, true, not}
@@ -46,7 +46,8 @@ unfoldable pub scanMatches : List ℕ → ℕ → ℕ → Bool
 scanMatches s n scan =
     both (eqb (leAt s (length s - 13) 8) (24 + 4 * n)) (both (standsAt s scan scanMagic) (scanSettings s scan n))
 
--- the section reaches as far as a span reads of a key header, by the scan address at the key's place in a scan part
+-- the section reaches as far as a span reads of a key header, by the scan address at the key's place in a scan part. It only chooses the way: 25 is asked
+-- where the header is read.
 unfoldable pub headerInside : List ℕ → List ℕ → ℕ → ℕ → Bool
 headerInside s r first scan = leb (getD r 4 0 + leAt s (scan + 24 + 4 * first) 4 + 14) (length s)
 

@@ -1,4 +1,4 @@
--- Key records one behind the other, at their scan addresses.
+-- Key records one behind the other, at their scan addresses; a record of the usual widths.
 -- Assumes nothing.
 use mathlib.Core.Path.{_≡_, refl, sym, ap, _∙_, subst, subst⁻¹}
 use mathlib.Core.Bool.{Bool, true, false}
@@ -124,7 +124,7 @@ module _ (s : List ℕ) (o : Opened) (first count : ℕ) (four : o .encoding .ad
 -- ---- a record of the usual widths
 
 -- a record whose widths, but for that of sequences, are replaced
-abbrev pub withWidths : Opened → ℕ → ℕ → ℕ → ℕ → Opened
+abbrev withWidths : Opened → ℕ → ℕ → ℕ → ℕ → Opened
 withWidths o address key count value =
     record {
       seed = o .seed;

@@ -9,8 +9,8 @@ ghost use Rattle.wholekeys.specs.Internal.{WholeKeys};
 use encoding::Encoding;
 use header::Opened;
 
-// The same record, with the widths that most sections have as constants: for these the compiler then makes loops of their own.
-pub fn usual(o: Opened) -> Opened
+// The same record, with the widths that most sections have, but for that of sequences, as constants: the compiler then makes loops for them alone.
+pub fn with_usual_widths(o: Opened) -> Opened
     requires { ⌜ usualWidths (o .encoding) ≡ true ⌝ }
     ensures { λ r. ⌜ r ≡ o ⌝ }
 {
@@ -97,7 +97,7 @@ pub fn keys_whole(section: &[u8], o: Opened, first: u64, count: u64) -> bool
     ensures { λ r. ⌜ (r ≡ true → WholeKeys (now (section .entry)) o first count) ⌝ }
 {
     if header::usual_widths(o.encoding) {
-        return records_whole(section, usual(o), first, count);
+        return records_whole(section, with_usual_widths(o), first, count);
     }
     records_whole(section, o, first, count)
 }

@@ -25,15 +25,15 @@ low-first (suc n) s o pos limit l =
     go (both (readable s pos (o .encoding .seq)) (ltb (storedSeq s o pos) (2 ^ 64))) (leb (storedSeq s o pos) limit)
     (lt-leb (storedSeq s o pos) limit (omega arith)) (low-first n s o (pos + versionLenOf (o .encoding)) limit l)
   where
-    go : (read low : Bool) → low ≡ false → pairsOf (firstWithin n s o (pos + versionLenOf (o .encoding)) limit) ≡ []
+    go : (read within : Bool) → within ≡ false → pairsOf (firstWithin n s o (pos + versionLenOf (o .encoding)) limit) ≡ []
         → pairsOf (elim read [
           | false ↦ refused 25
-          | true ↦ elim low [
+          | true ↦ elim within [
             | true ↦ if readable s pos (valueEnd (o .encoding)) then given (valueAt s o pos) else refused 25
             | false ↦ firstWithin n s o (pos + versionLenOf (o .encoding)) limit
           ]
         ]) ≡ []
-    go false low e q = refl
+    go false within e q = refl
     go true true e q = false-true (sym e)
     go true false e q = q
 

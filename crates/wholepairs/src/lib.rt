@@ -30,7 +30,8 @@ pub fn put_version(section: &[u8], o: Opened, pos: usize, pairs: &mut [u64], to:
     to + 2
 }
 
-// Writes the value of the first of some versions whose stored sequence is at most `within`, if there is one, and answers where the next pair goes.
+// Writes the value of the first of some versions whose stored number is at most `within`, the limit less the least sequence, if there is one, and
+// answers where the next pair goes.
 fn put_newest(
     section: &[u8],
     o: Opened,
@@ -62,7 +63,7 @@ fn put_newest(
     to
 }
 
-// Writes the values of some keys whose records are whole, and answers how many places they take.
+// Writes the values of some keys whose records are whole, with `within` as above, and answers how many places they take.
 fn put_records(
     section: &[u8],
     o: Opened,
@@ -82,6 +83,7 @@ fn put_records(
     let key_mask = words::mask(e.key);
     let count_mask = words::mask(e.count);
     let lengths = e.address + e.key;
+    // Not `key_header`: with it the compiler takes the loop for too long to make it twice (docs/PERFORMANCE.md).
     let header = lengths + e.key + e.count;
     let mut table = o.scan + Encoding::SCAN_HEADER + 4 * first as usize;
     let mut to = 0;
@@ -98,7 +100,8 @@ fn put_records(
     to
 }
 
-// Writes the values of some keys whose records are whole, and answers how many there are. The widths that most sections have get loops of their own.
+// Writes the values of some keys whose records are whole, and answers how many there are. Under a limit
+// below the least sequence there are none. The widths that most sections have get loops of their own.
 pub fn put_whole(
     section: &[u8],
     o: Opened,
@@ -119,7 +122,7 @@ pub fn put_whole(
     }
     let within = limit - o.min_seq;
     if header::usual_widths(o.encoding) {
-        return put_records(section, wholekeys::usual(o), first, count, within, pairs) as u64 / 2;
+        return put_records(section, wholekeys::with_usual_widths(o), first, count, within, pairs) as u64 / 2;
     }
     put_records(section, o, first, count, within, pairs) as u64 / 2
 }

@@ -10,19 +10,19 @@ use Rattle.wholekeys.proofs.keys_whole.Tie as tie
 usual-widths-requires : tie.Need-usual-widths-requires
 usual-widths-requires c κs = search needs
 
-usual-requires : tie.Need-usual-requires
-usual-requires c κs = sym (c .before .usual-widths .ensures) ∙ c .if1 .taken
+with-usual-widths-requires : tie.Need-with-usual-widths-requires
+with-usual-widths-requires c κs = sym (c .before .usual-widths .ensures) ∙ c .if1 .taken
 
 records-whole-requires : tie.Need-records-whole-requires
 records-whole-requires c κs =
-    let e = c .usual .ensures in
+    let e = c .with-usual-widths .ensures in
     let pre = c .before .before .before .before .pre in
     (subst⁻¹ Spannable e (pre .0), omega (arith, ap (λ (o : Opened). o .scan) e, pre .1))
 
 returns : tie.Need-returns
 returns c =
     let a = c .before .before .before .before .before .args in
-    λ t. subst (λ (o : Opened). WholeKeys (a .section .now) o (a .first) (a .count)) (c .before .usual .ensures) (c .records-whole .ensures t)
+    λ t. subst (λ (o : Opened). WholeKeys (a .section .now) o (a .first) (a .count)) (c .before .with-usual-widths .ensures) (c .records-whole .ensures t)
 
 records-whole-requires-2 : tie.Need-records-whole-requires-2
 records-whole-requires-2 c κs = search needs
@@ -35,7 +35,7 @@ keys-whole-spec =
     tie.close
     (tie.spec
     usual-widths-requires
-    usual-requires
+    with-usual-widths-requires
     records-whole-requires
     returns
     records-whole-requires-2

@@ -1,6 +1,6 @@
 use mathlib.Core.Path.{_≡_, sym, ap, ap₂, _∙_, subst⁻¹}
 use mathlib.Core.List.{List}
-use Prim.Native.Nat.{ℕ, _+_, _*_, _-_}
+use Prim.Native.Nat.{ℕ, _+_, _-_}
 use native.Mathlib.Omega.{arith}
 use lib.ListN.{length}
 use lib.Seq.{sets}
@@ -27,12 +27,12 @@ returns c =
 usual-widths-requires : tie.Need-usual-widths-requires
 usual-widths-requires c κs = search needs
 
-usual-requires : tie.Need-usual-requires
-usual-requires c κs = sym (c .before .usual-widths .ensures) ∙ c .if2 .taken
+with-usual-widths-requires : tie.Need-with-usual-widths-requires
+with-usual-widths-requires c κs = sym (c .before .usual-widths .ensures) ∙ c .if2 .taken
 
 put-records-requires : tie.Need-put-records-requires
 put-records-requires c κs =
-    let e = c .before .usual .ensures in
+    let e = c .before .with-usual-widths .ensures in
     let s = c .before .before .before .before .before .before .before .before .before in
     let a = s .args in (
       subst⁻¹ Spannable e (s .pre .0),
@@ -47,7 +47,7 @@ same-length c = search needs
 
 returns-2 : tie.Need-returns-2
 returns-2 c =
-    let e = c .before .before .before .before .usual .ensures in
+    let e = c .before .before .before .before .with-usual-widths .ensures in
     let a = c .before .before .before .before .before .before .before .before .before .before .before .before .args in
     let put = c .before .before .put-records .ensures in
     let l : a .o .«min_seq» + (a .limit - a .o .«min_seq») ≡ a .limit = omega (arith, c .before .before .before .before .before .before .before .before .if1 .left) in
@@ -76,7 +76,7 @@ put-whole-spec =
     (tie.spec
     returns
     usual-widths-requires
-    usual-requires
+    with-usual-widths-requires
     put-records-requires
     same-length
     returns-2
