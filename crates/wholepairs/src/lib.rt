@@ -122,7 +122,15 @@ pub fn put_whole(
     }
     let within = limit - o.min_seq;
     if header::usual_widths(o.encoding) {
-        return put_records(section, wholekeys::with_usual_widths(o), first, count, within, pairs) as u64 / 2;
+        return put_records(
+            section,
+            wholekeys::with_usual_widths(o),
+            first,
+            count,
+            within,
+            pairs,
+        ) as u64
+            / 2;
     }
     put_records(section, o, first, count, within, pairs) as u64 / 2
 }
