@@ -1,4 +1,6 @@
 // Adding an entry to a builder: the bytes that it takes of the area, and the questions before them.
+#![tactic(auto)]
+
 ghost use Rattle.std.specs.Prelude.{◌≡◌, ◌++◌, ◌+◌, ◌≤◌, length};
 ghost use Rattle.std.proofs.lemmas.List.Edits.{sets};
 ghost use Rattle.num.specs.Choice.{when◌then◌else◌};

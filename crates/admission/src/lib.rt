@@ -1,5 +1,7 @@
 // Acceptance: definitions and theorems alone.
 
+#![tactic(auto)]
+
 pub fn nothing() -> u64 {
     0
 }

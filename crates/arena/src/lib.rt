@@ -1,4 +1,6 @@
 // The arena beside the records of the blocks: what a key's first record must agree with, questions 16 to 19.
+#![tactic(auto)]
+
 ghost use Rattle.std.specs.Prelude.{◌≡◌, true, not, ◌+◌, ◌*◌, ◌^◌, ◌<◌, ◌≤◌, eqb, length, take};
 ghost use Rattle.num.specs.Choice.{when◌then◌else◌, either};
 ghost use Rattle.encoding.specs.Encoding.{Widths, key_header_len_of};
@@ -9,7 +11,7 @@ use encoding::Encoding;
 use header::Opened;
 
 // Where the walk of the arena stands.
-#[derive(Drop)]
+#[derive(Clone, Copy)]
 pub struct Cursor {
     // The place of the next version, or of the next key record.
     pub pos: usize,
@@ -32,7 +34,7 @@ pub struct Cursor {
 }
 
 // A key header: where its anchor's suffix is, and the lengths and the number of versions.
-#[derive(Drop)]
+#[derive(Clone, Copy)]
 pub struct KeyHeader {
     pub anchor: usize,
     pub shared: usize,
@@ -41,7 +43,7 @@ pub struct KeyHeader {
 }
 
 // The cursor behind a record, or the number of the question that it fails.
-#[derive(Drop)]
+#[derive(Clone, Copy)]
 pub enum Visited {
     Went(Cursor),
     Refused(u64),

@@ -1,4 +1,6 @@
 // Data blocks: whether a block is sound, and its records one after another.
+#![tactic(auto)]
+
 ghost use Rattle.std.specs.Prelude.{◌≡◌, true, ◌+◌, ◌*◌, ◌≤◌, length, take, drop};
 ghost use Rattle.std.proofs.lemmas.List.Edits.{sets};
 ghost use Rattle.crc32.specs.Table.{is_table};
@@ -9,21 +11,21 @@ ghost use Rattle.block.specs.Record.{record_at};
 use sstable::{Kind, KindRead};
 
 // Where a block's entries end, where its restart offsets start, and how many they are.
-#[derive(Drop)]
+#[derive(Clone, Copy)]
 pub struct BlockMeta {
     pub entries_end: usize,
     pub restart_start: usize,
     pub num_restarts: usize,
 }
 
-#[derive(Drop)]
+#[derive(Clone, Copy)]
 pub enum Verified {
     Sound(BlockMeta),
     Unsound,
 }
 
 // The numbers of an entry.
-#[derive(Drop)]
+#[derive(Clone, Copy)]
 pub struct EntryHeader {
     pub kind: Kind,
     pub seq: u64,
@@ -33,14 +35,14 @@ pub struct EntryHeader {
 }
 
 // The numbers of an entry that passes `header_at`.
-#[derive(Drop)]
+#[derive(Clone, Copy)]
 pub enum EntryRead {
     Read(EntryHeader),
     Bad,
 }
 
 // A record of the walk: the value's place in the block and its length, and the place of the next record.
-#[derive(Drop)]
+#[derive(Clone, Copy)]
 pub struct Record {
     pub kind: Kind,
     pub seq: u64,
@@ -51,7 +53,7 @@ pub struct Record {
     pub next: usize,
 }
 
-#[derive(Drop)]
+#[derive(Clone, Copy)]
 pub enum Stepped {
     Met(Record),
     Stopped,

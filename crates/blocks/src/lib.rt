@@ -1,4 +1,6 @@
 // A lent list of block records: filled from the pairs of a block list, and searched by offset.
+#![tactic(auto)]
+
 ghost use Rattle.std.specs.Prelude.{◌≡◌, true, ◌%◌, ◌≤◌, length};
 ghost use Rattle.crc32.specs.Table.{is_table};
 ghost use Rattle.blocks.specs.Blocks.{pair_record, records_from, fill_of, filled_read, filled_number, filled_count, filled_places, find_of, found_place};
@@ -8,7 +10,7 @@ use block::Verified;
 
 // A block's pair of the list, and where its entries end, where its restart offsets start, and how many they are.
 #[repr(C)]
-#[derive(Drop)]
+#[derive(Clone, Copy)]
 pub struct BlockRecord {
     pub offset: u64,
     pub len: u64,
@@ -18,14 +20,14 @@ pub struct BlockRecord {
 }
 
 // How many records were written, or the number of the question that failed.
-#[derive(Drop)]
+#[derive(Clone, Copy)]
 pub enum Filled {
     Wrote(usize),
     Refused(u64),
 }
 
 // A place counted from the start of the part lent.
-#[derive(Drop)]
+#[derive(Clone, Copy)]
 pub enum FoundBlock {
     At(usize),
     Absent,

@@ -1,4 +1,6 @@
 // The builder: what an add asks and keeps, and the size of the section that will be written.
+#![tactic(auto)]
+
 ghost use Rattle.std.specs.Prelude.{◌≡◌, true, ◌+◌, ◌-◌, ◌≤◌, min, max, ltb, length};
 ghost use Rattle.num.specs.Choice.{when◌then◌else◌, either};
 ghost use Rattle.area.specs.Area.{area_versions};
@@ -9,7 +11,7 @@ use encoding::{Encoding, Totals};
 
 // What a builder keeps beside its area: the totals of its entries, how many bytes of the area are used, and the places of the last key and
 // of the latest anchor in it. All zero is the empty builder.
-#[derive(Drop)]
+#[derive(Clone, Copy)]
 pub struct Builder {
     pub totals: Totals,
     pub used: u64,
@@ -18,14 +20,14 @@ pub struct Builder {
 }
 
 // The record after an add, or the number of the question that failed.
-#[derive(Drop)]
+#[derive(Clone, Copy)]
 pub enum Added {
     Taken(Builder),
     Refused(u64),
 }
 
 // How many bytes the section will have, or 37.
-#[derive(Drop)]
+#[derive(Clone, Copy)]
 pub enum Sized {
     Bytes(u64),
     Refused(u64),

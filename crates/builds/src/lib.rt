@@ -1,4 +1,6 @@
 // The entries of building, over sixteen numbers as the builder's record.
+#![tactic(auto)]
+
 ghost use Rattle.std.specs.Prelude.{◌≡◌, true, false, eqb, length};
 ghost use Rattle.num.specs.Choice.{when◌then◌else◌};
 ghost use Rattle.sstable.specs.declared.Kind.TheVariants.{Put, Tombstone};

@@ -1,5 +1,7 @@
 // The CRC-32 of short inputs without the 8 KiB of tables that a long one is worth. A constant array is copied to the stack where
 // it is named: here 1 KiB, by which a byte takes two entries, one for each half.
+#![tactic(auto)]
+
 ghost use Rattle.std.specs.Prelude.{◌≡◌, true, [], ◌∷◌, ◌<◌, drop};
 ghost use Rattle.num.specs.Number.{le_bytes};
 ghost use Rattle.crc32.specs.V42.{crc_of, update_of};

@@ -1,4 +1,6 @@
 // Construction: from the keys of a builder's area to a seed, a pilot for each bucket and a key for each slot.
+#![tactic(auto)]
+
 ghost use Rattle.std.specs.Prelude.{◌≡◌, ◌+◌, ◌*◌, ◌≤◌, ◌^◌, length};
 ghost use Rattle.std.proofs.lemmas.List.Edits.{sets};
 ghost use Rattle.construction.specs.Construct.{hashes_of, placement_of, construct_of};
@@ -48,7 +50,7 @@ fn with_seed(hashes: &[u64], scratch: &mut [u32]) -> bool
 }
 
 // The first of the eight seeds under which every key finds its slot, or none.
-#[derive(Drop)]
+#[derive(Clone, Copy)]
 pub enum Built {
     Seed(u64),
     Exhausted,

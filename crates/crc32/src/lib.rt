@@ -1,5 +1,7 @@
 // CRC-32, the 32-bit frame check sequence of ITU-T V.42, eight bytes at a time by eight tables.
 // A constant array is copied to the stack wherever it is named, so the table is lent once and passed on.
+#![tactic(auto)]
+
 ghost use Rattle.std.specs.Prelude.{◌≡◌, true, [], ◌∷◌, ◌<◌, drop};
 ghost use Rattle.num.specs.Number.{le_bytes};
 ghost use Rattle.crc32.specs.V42.{crc_of, update_of, finalize_of};

@@ -1,5 +1,7 @@
 // Prints the CRC-32 of the digits 1 to 9, of the first 0 to 40 bytes of a counting pattern, and of some kilobytes of it.
 // What it must print was made with zlib's crc32 (called from Python's module zlib), which shares no code with this.
+#![tactic(auto)]
+
 ghost use Rattle.std.specs.Prelude.{◌≤◌, length};
 
 use libc::STDOUT_FILENO;

@@ -1,4 +1,6 @@
 // The widths of a section's numbers, and the lengths and constants that follow from its format.
+#![tactic(auto)]
+
 ghost use Rattle.std.specs.Prelude.{◌≡◌};
 ghost use Rattle.encoding.specs.Encoding.{
   Bounded,
@@ -16,7 +18,7 @@ ghost use Rattle.encoding.specs.Encoding.{
 };
 
 // What a builder has counted of its entries.
-#[derive(Drop)]
+#[derive(Clone, Copy)]
 pub struct Totals {
     pub keys: u64,
     pub versions: u64,
@@ -65,7 +67,7 @@ fn address_width(arena: usize, last_value_offset: u64) -> usize
 }
 
 // The widths in which a section stores its numbers, and whether each version has its value's CRC-32.
-#[derive(Drop)]
+#[derive(Clone, Copy)]
 pub struct Encoding {
     pub address: usize,
     pub key: usize,

@@ -1,4 +1,6 @@
 // The header of a section, and the record of an opened one: questions 3 to 7.
+#![tactic(auto)]
+
 ghost use Rattle.std.specs.Prelude.{◌≡◌, [], ◌∷◌, ◌+◌, ◌≤◌, ◌<◌, length};
 ghost use Rattle.num.specs.Choice.{one_of};
 ghost use Rattle.header.specs.Header.{stands_at_of, begins, has_flag, encoding_at, fields_of, allowed_widths, dimensions, scan_place_of, scan_part, scan_settings, scanned_of, header_of, fits_packed, packed_record, arena_end_of};
@@ -8,7 +10,7 @@ ghost use Rattle.header.specs.Facts.{Dimensions};
 use encoding::Encoding;
 
 // What opening keeps of a section: numbers alone. `scan` is the place of the scan part, 0 without one.
-#[derive(Drop)]
+#[derive(Clone, Copy)]
 pub struct Opened {
     pub seed: u64,
     pub min_seq: u64,
@@ -21,7 +23,7 @@ pub struct Opened {
 }
 
 // The record, or the number of the question that the header fails.
-#[derive(Drop)]
+#[derive(Clone, Copy)]
 pub enum HeaderRead {
     Accepted(Opened),
     Refused(u64),

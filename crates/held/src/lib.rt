@@ -1,5 +1,7 @@
 // Question 24 of sixteen numbers, before a record is made of them: every lookup asks it. Tests that need no other are joined by `&`, which
 // leaves few branches.
+#![tactic(auto)]
+
 ghost use Rattle.std.specs.Prelude.{◌≡◌, true, ◌+◌, ◌^◌, ◌≤◌, ◌<◌, length, get_or};
 ghost use Rattle.num.specs.Choice.{both};
 ghost use Rattle.header.specs.Header.{allowed_widths, scanned_of};

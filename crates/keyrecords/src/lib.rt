@@ -1,4 +1,6 @@
 // The arena written from the builder's area: a key record for each key, and the address of each.
+#![tactic(auto)]
+
 ghost use Rattle.std.specs.Prelude.{◌≡◌, ◌+◌, ◌%◌, ◌≤◌, eqb, length, take, drop};
 ghost use Rattle.std.proofs.lemmas.List.Edits.{sets};
 ghost use Rattle.num.specs.Choice.{when◌then◌else◌};

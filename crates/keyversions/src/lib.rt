@@ -1,4 +1,6 @@
 // The versions of a key written from the builder's area.
+#![tactic(auto)]
+
 ghost use Rattle.std.specs.Prelude.{◌≡◌, ◌+◌, ◌*◌, ◌≤◌, length};
 ghost use Rattle.std.proofs.lemmas.List.Edits.{sets};
 ghost use Rattle.num.specs.Choice.{when◌then◌else◌};

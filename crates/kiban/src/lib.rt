@@ -1,4 +1,6 @@
 // The delivered interface, for Rattle, C and Rust. No entry has a `requires`.
+#![tactic(auto)]
+
 ghost use Rattle.std.specs.Prelude.{◌≡◌, length};
 ghost use Rattle.crc32.specs.V42.{crc_of};
 ghost use Rattle.builder.specs.Record.{size_of_section, sized_read, sized_number};

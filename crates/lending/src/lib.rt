@@ -1,4 +1,6 @@
 // An array of block records, of which a part is lent to the entries that take records.
+#![tactic(auto)]
+
 ghost use Rattle.std.specs.Prelude.{◌≡◌, ◌++◌, ◌≤◌, ◌-◌, take, drop};
 ghost use Rattle.blocks.specs.Blocks.{fill_of, filled_read, filled_number, filled_count, filled_places, find_of, found_place};
 

@@ -1,4 +1,6 @@
 // The lines that the program `keys` prints, each written at the front of a lent buffer.
+#![tactic(auto)]
+
 ghost use Rattle.std.specs.Prelude.{◌≡◌, ◌+◌, ◌*◌, ◌<◌, ◌≤◌, length};
 ghost use Rattle.lines.specs.Lines.{hex_digit, hex_of, key_text, decimal_of, labelled, kind_text, names_line, numbers_text, record_line, live_one, mean_of, totals_line, refused_line, unreadable_line};
 ghost use Rattle.lines.specs.Wrote.{Wrote};

@@ -1,4 +1,6 @@
 // Theorems only: two linkers that agree.
+#![tactic(auto)]
+
 pub fn nothing() -> u64 {
     0
 }

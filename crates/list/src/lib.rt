@@ -1,11 +1,13 @@
 // A list of rows of numbers, as tools/replay/README.md has it: its numbers and bytes, and counts of its rows. Outside the list all is 0 or
 // empty, so that nothing is asked of a caller.
+#![tactic(auto)]
+
 ghost use Rattle.std.specs.Prelude.{◌≤◌};
 
 use libc::STDOUT_FILENO;
 
 // Where the next row stands, and how many before it agree and differ.
-#[derive(Drop)]
+#[derive(Clone, Copy)]
 pub struct Tally {
     pub at: u64,
     pub agree: u64,

@@ -7,7 +7,7 @@ use crate::text::Left;
 use libc::STDOUT_FILENO;
 
 // How many bytes of a file were read, and whether they are all of it.
-#[derive(Drop)]
+#[derive(Clone, Copy)]
 struct Loaded {
     len: usize,
     whole: bool,

@@ -11,7 +11,7 @@ use crate::walk::Place;
 use header::HeaderRead;
 
 // What is left to print. The number of keys goes with the names and the records.
-#[derive(Drop)]
+#[derive(Clone, Copy)]
 pub enum Left {
     Unreadable,
     Refusal(u64),
@@ -21,7 +21,7 @@ pub enum Left {
 }
 
 // How many bytes of a line were written, and what is left behind it.
-#[derive(Drop)]
+#[derive(Clone, Copy)]
 pub struct Printed {
     pub len: usize,
     pub left: Left,

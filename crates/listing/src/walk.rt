@@ -17,7 +17,7 @@ const ENTRY_FIXED_LEN: usize = 21;
 
 // Where a listing stands: the place of its pair in the block list, the place in that pair's block, the length of the key before in
 // that block, which lies at the front of the key buffer, and how many P lines there were.
-#[derive(Drop)]
+#[derive(Clone, Copy)]
 pub struct Place {
     pub pair: usize,
     pub pos: usize,
@@ -26,7 +26,7 @@ pub struct Place {
 }
 
 // How many bytes of a line were written, and the place behind it.
-#[derive(Drop)]
+#[derive(Clone, Copy)]
 pub struct Step {
     pub len: usize,
     pub place: Place,

@@ -1,4 +1,6 @@
 // The first version of a key record that is not above a limit.
+#![tactic(auto)]
+
 ghost use Rattle.std.specs.Prelude.{◌≡◌, ◌+◌, ◌*◌, ◌<◌, ◌≤◌, length};
 ghost use Rattle.num.specs.Choice.{when◌then◌else◌};
 ghost use Rattle.encoding.specs.Encoding.{Widths, version_len_of, tombstone_of};
@@ -9,7 +11,7 @@ use header::Opened;
 use sstable::Kind;
 
 // A version of a key: kind, sequence, the place and length of its value in the data, and its CRC-32, 0 without checksums.
-#[derive(Drop)]
+#[derive(Clone, Copy)]
 pub struct ValueLocator {
     pub kind: Kind,
     pub seq: u64,
@@ -19,7 +21,7 @@ pub struct ValueLocator {
 }
 
 // The first stored version of the key that is not above the limit, none, or the number of the question that failed.
-#[derive(Drop)]
+#[derive(Clone, Copy)]
 pub enum Located {
     Found(ValueLocator),
     Missing,

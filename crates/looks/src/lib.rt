@@ -1,4 +1,6 @@
 // A lookup over sixteen numbers as the opened record.
+#![tactic(auto)]
+
 ghost use Rattle.std.specs.Prelude.{◌≡◌};
 ghost use Rattle.locator.specs.Locator.{located_number};
 ghost use Rattle.looks.specs.Looked.{lookup_of, answer_written};

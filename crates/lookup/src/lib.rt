@@ -1,4 +1,6 @@
 // Lookup: from a key and a limit to the version that the section names, and from there to the value.
+#![tactic(auto)]
+
 ghost use Rattle.std.specs.Prelude.{◌≡◌, ◌+◌, ◌*◌, ◌<◌, ◌≤◌, ◌^◌, leb, eqb, length};
 ghost use Rattle.num.specs.Choice.{either};
 ghost use Rattle.num.specs.Number.{le_at};

@@ -1,4 +1,6 @@
 // The numbers that the entries give: definitions and theorems alone.
+#![tactic(auto)]
+
 pub fn nothing() -> u64 {
     0
 }

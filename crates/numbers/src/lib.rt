@@ -1,4 +1,6 @@
 // An opened record and a builder's as sixteen numbers, and an answer as six: written, and read back.
+#![tactic(auto)]
+
 ghost use Rattle.std.specs.Prelude.{◌≡◌};
 ghost use Rattle.std.proofs.lemmas.List.Edits.{sets};
 ghost use Rattle.numbers.specs.Numbers.{flag_number, record_numbers};

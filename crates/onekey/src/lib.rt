@@ -1,4 +1,6 @@
 // The value of one key as a pair of offset and length, read by words of eight bytes.
+#![tactic(auto)]
+
 ghost use Rattle.std.specs.Prelude.{◌≡◌, true, ◌+◌, ◌^◌, ◌<◌, ◌≤◌, length};
 ghost use Rattle.num.specs.Number.{le_at, is_width};
 ghost use Rattle.spans.specs.Span.{first_within, values_from};
@@ -8,7 +10,7 @@ ghost use Rattle.onekey.specs.Internal.{VersionTold, KeyPut};
 use header::Opened;
 
 // What is found of a key's versions: the place of the first within the limit, that there is none, or nothing.
-#[derive(Drop)]
+#[derive(Clone, Copy)]
 enum VersionFound {
     At(usize),
     Absent,
@@ -46,7 +48,7 @@ fn first_within(section: &[u8], o: Opened, versions: usize, from: usize, limit: 
 }
 
 // What became of a key: so many pairs of it were written, or nothing was and its caller reads it another way.
-#[derive(Drop)]
+#[derive(Clone, Copy)]
 pub enum KeyWritten {
     Written(u64),
     Left,

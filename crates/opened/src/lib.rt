@@ -1,4 +1,6 @@
 // Question 24: whether the bytes of a section, plain or packed, give an opened record. Crate `held` asks the same in fewer instructions.
+#![tactic(auto)]
+
 ghost use Rattle.std.specs.Prelude.{◌≡◌};
 ghost use Rattle.header.specs.Header.{header_of};
 ghost use Rattle.opened.specs.Opened.{same_encoding, same_counts, same_record_of, plain_for, packed_of, is_record_of};

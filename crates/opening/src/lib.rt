@@ -1,4 +1,6 @@
 // Opening: whether a section, its backing data and its block list belong together, question by question.
+#![tactic(auto)]
+
 ghost use Rattle.std.specs.Prelude.{◌≡◌, true, [], ◌+◌, ◌*◌, ◌%◌, ◌≤◌, length, eqb};
 ghost use Rattle.crc32.specs.Table.{is_table};
 ghost use Rattle.header.specs.declared.HeaderRead.TheVariants.{Accepted};
@@ -19,7 +21,7 @@ use sstable::Trailer;
 use validate::{BlockOpened, Carried};
 
 // Where the pairs end, or the number of the question that failed.
-#[derive(Drop)]
+#[derive(Clone, Copy)]
 pub enum BlocksOpened {
     Ended(usize, Carried),
     Refused(u64),

@@ -1,4 +1,6 @@
 // The two openings, which write the record as sixteen numbers.
+#![tactic(auto)]
+
 ghost use Rattle.std.specs.Prelude.{◌≡◌, length};
 ghost use Rattle.header.specs.Header.{header_number};
 ghost use Rattle.opening.specs.Open.{open_of};

@@ -1,4 +1,6 @@
 // The packed bytes of a section: pilots of three bytes, addresses without fingerprints, and no scan part.
+#![tactic(auto)]
+
 ghost use Rattle.std.specs.Prelude.{◌≡◌, true, [], ◌∷◌, ◌++◌, ◌+◌, ◌*◌, ◌≤◌, length, take, drop};
 ghost use Rattle.std.proofs.lemmas.List.Edits.{sets};
 ghost use Rattle.num.specs.Choice.{one_of};

@@ -1,4 +1,6 @@
 // The packed form: pilots of three bytes, addresses without fingerprints, and no scan part. Questions 7 to 9.
+#![tactic(auto)]
+
 ghost use Rattle.std.specs.Prelude.{◌≡◌, true, ◌+◌, ◌*◌, ◌≤◌, length};
 ghost use Rattle.num.specs.Choice.{each_below};
 ghost use Rattle.crc32.specs.Table.{is_table};
@@ -11,7 +13,7 @@ use encoding::Encoding;
 use header::{HeaderRead, Opened};
 
 // The packed record and how many bytes were written, or the number of the first question that fails.
-#[derive(Drop)]
+#[derive(Clone, Copy)]
 pub enum PackedRead {
     Packed(Opened, usize),
     Refused(u64),

@@ -1,4 +1,6 @@
 // Pilots for the buckets of two and more keys, in their order: the least pilot under which a bucket's slots are free and different.
+#![tactic(auto)]
+
 ghost use Rattle.std.specs.Prelude.{◌≡◌, true, ◌+◌, ◌<◌, ◌≤◌, ◌^◌, ltb, length, set};
 ghost use Rattle.num.specs.Choice.{when◌then◌else◌};
 ghost use Rattle.construction.specs.Construct.{bucket_count, order_of, filled, least_pilot, bucket_placed_for, place_bucket, place_buckets};

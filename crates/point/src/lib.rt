@@ -1,4 +1,6 @@
 // From a key to its slot: hash, fingerprint, bucket, and what a pilot names.
+#![tactic(auto)]
+
 ghost use Rattle.std.specs.Prelude.{◌≡◌, ◌/◌, ◌<◌, length};
 ghost use Rattle.std.specs.Int.Bits.{bit_xor};
 ghost use Rattle.num.specs.Number.{le_at};

@@ -1,4 +1,6 @@
 // How many scan prefixes the keys of the builder's area begin with.
+#![tactic(auto)]
+
 ghost use Rattle.std.specs.Prelude.{◌≡◌, not, ◌≤◌, min, length, take};
 ghost use Rattle.num.specs.Choice.{when◌then◌else◌};
 ghost use Rattle.num.specs.Order.{equal_bytes};

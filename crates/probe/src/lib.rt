@@ -1,4 +1,6 @@
 // Exports for differential runs and benchmarks: the leaves, one by one. No part of the delivered interface.
+#![tactic(auto)]
+
 ghost use Rattle.std.specs.Prelude.{◌≡◌, true, ◌+◌, ◌*◌, ◌≤◌, ◌^◌, length};
 ghost use Rattle.crc32.specs.V42.{crc_of, update_of};
 ghost use Rattle.crc32.specs.Table.{is_table};

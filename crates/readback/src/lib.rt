@@ -1,4 +1,6 @@
 // Reading the builder's area back: question 37 of writing.
+#![tactic(auto)]
+
 ghost use Rattle.std.specs.Prelude.{◌≡◌, true, ◌+◌, ◌-◌, ◌≤◌, ◌<◌, leb, length};
 ghost use Rattle.num.specs.Choice.{when◌then◌else◌};
 ghost use Rattle.area.specs.Area.{area_key_len};
@@ -10,7 +12,7 @@ use builder::Builder;
 use encoding::Totals;
 
 // The record of what was read, or that an entry was refused.
-#[derive(Drop)]
+#[derive(Clone, Copy)]
 enum Read {
     Record(Builder),
     Refused,

@@ -1,5 +1,7 @@
 // Asks lists of the Rust's answers again, and counts the rows that agree. tools/replay/make wrote the lists in data/, and
 // tools/replay/README.md has their form. What a question may write holds a 7 at every place before it.
+#![tactic(auto)]
+
 mod leaves;
 mod lookups;
 mod opens;

@@ -1,5 +1,7 @@
 // Builds lists of adds again, and counts the answers that are the Rust's. tools/replay/make wrote the lists in data/, and
 // tools/replay/README.md has their form. The rows of a list share one builder; size and length hold a 7 before each question.
+#![tactic(auto)]
+
 mod written;
 
 use list::Tally;

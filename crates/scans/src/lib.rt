@@ -1,4 +1,6 @@
 // Spans over an opened section: their questions in order, and how the keys are read.
+#![tactic(auto)]
+
 ghost use Rattle.std.specs.Prelude.{◌≡◌, true, ◌+◌, ◌*◌, ◌≤◌, leb, length};
 ghost use Rattle.opened.specs.Opened.{is_record_of};
 ghost use Rattle.spans.specs.Span.{scannable, scan_address, values_from, span_of, pairs_written, spanned_read, spanned_number};

@@ -1,4 +1,6 @@
 // The section written into the lent output, from pilots and slots that stand in the scratch.
+#![tactic(auto)]
+
 ghost use Rattle.std.specs.Prelude.{◌≡◌, ◌^◌, ◌≤◌, length, get_or};
 ghost use Rattle.std.proofs.lemmas.List.Edits.{sets};
 ghost use Rattle.construction.specs.Scratch.{indices_at, placement_in};

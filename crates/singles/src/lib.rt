@@ -1,4 +1,6 @@
 // Buckets of one key: each takes the least free slot, which its pilot names.
+#![tactic(auto)]
+
 ghost use Rattle.std.specs.Prelude.{◌≡◌, ◌+◌, ◌<◌, ◌≤◌, length, get_or};
 ghost use Rattle.construction.specs.Construct.{members_of, size_of, order_of, least_free, place_singles};
 ghost use Rattle.construction.specs.Scratch.{slots_at, placement_in};

@@ -1,4 +1,6 @@
 // Spans: the values of some keys, one behind the other, as pairs of offset and length.
+#![tactic(auto)]
+
 ghost use Rattle.std.specs.Prelude.{◌≡◌, true, ◌+◌, ◌*◌, ◌^◌, ◌<◌, ◌≤◌, length};
 ghost use Rattle.std.proofs.lemmas.List.Edits.{sets};
 ghost use Rattle.encoding.specs.Encoding.{key_header_len_of};
@@ -9,14 +11,14 @@ ghost use Rattle.spans.specs.Internal.{Spannable, Inside, value_read, is_failed,
 use header::Opened;
 
 // How many pairs there are, or the number of the question that failed.
-#[derive(Drop)]
+#[derive(Clone, Copy)]
 pub enum Spanned {
     Pairs(u64),
     Refused(u64),
 }
 
 // What is read of a key's versions: the place of the first within the limit, that there is none, or that 25 fails.
-#[derive(Drop)]
+#[derive(Clone, Copy)]
 enum VersionRead {
     At(usize),
     Absent,

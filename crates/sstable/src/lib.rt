@@ -1,4 +1,6 @@
 // What sorted tables share: kinds of records, limits, the order of keys, trailers.
+#![tactic(auto)]
+
 ghost use Rattle.std.specs.Prelude.{◌≡◌, true, ◌+◌, ◌≤◌, min, length, drop};
 ghost use Rattle.num.specs.Order.{less_than, common_prefix_len, equal_bytes};
 ghost use Rattle.crc32.specs.Table.{is_table};
@@ -6,14 +8,14 @@ ghost use Rattle.sstable.specs.Kind.{kind_number, kind_of};
 ghost use Rattle.sstable.specs.Limits.{within_limits};
 ghost use Rattle.sstable.specs.Trailer.{trailer_of};
 
-#[derive(Drop)]
+#[derive(Clone, Copy)]
 pub enum Kind {
     Put,
     Tombstone,
 }
 
 // What a kind byte says.
-#[derive(Drop)]
+#[derive(Clone, Copy)]
 pub enum KindRead {
     Known(Kind),
     Unknown,
@@ -125,7 +127,7 @@ pub fn keys_equal(a: &[u8], b: &[u8]) -> bool
 }
 
 // What the last five bytes of a section or a block say.
-#[derive(Drop)]
+#[derive(Clone, Copy)]
 pub enum Trailer {
     Intact,
     UnknownType,

@@ -1,4 +1,6 @@
 // Prints further stores, each by the code of the program `keys`.
+#![tactic(auto)]
+
 fn main() {
     // Three blocks, and an empty key.
     listing::run(

@@ -1,4 +1,6 @@
 // The parts of a section beside its arena, each written into a part of the output that is lent: header, pilots, slots, scan part, type byte and CRC-32.
+#![tactic(auto)]
+
 ghost use Rattle.std.specs.Prelude.{◌≡◌, [], ◌∷◌, ◌++◌, ◌+◌, ◌*◌, ◌≤◌, length, get_or, take};
 ghost use Rattle.std.proofs.lemmas.List.Edits.{sets};
 ghost use Rattle.num.specs.Choice.{when◌then◌else◌};

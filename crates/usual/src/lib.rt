@@ -1,5 +1,7 @@
 // Questions 24 and 27 of the records that most sections with a scan part give, in few instructions: widths as `usual_widths` has them, and
 // sequences of at most four bytes. A span asks them so first, and after a no one by one.
+#![tactic(auto)]
+
 ghost use Rattle.std.specs.Prelude.{◌≡◌, true, ◌+◌, ◌*◌, ◌^◌, ◌≤◌, ◌<◌, length};
 ghost use Rattle.usual.specs.Internal.{usual_numbers, fields_match, start_matches, scan_matches, header_inside_of, ScanRecord};
 

@@ -1,4 +1,6 @@
 // The records of a block in turn: questions 13 to 21.
+#![tactic(auto)]
+
 ghost use Rattle.std.specs.Prelude.{◌≡◌, true, [], ◌+◌, ◌≤◌, length, take, drop, eqb};
 ghost use Rattle.std.proofs.lemmas.List.Edits.{sets};
 ghost use Rattle.crc32.specs.Table.{is_table};
@@ -15,7 +17,7 @@ use header::Opened;
 use versions::RecordInfo;
 
 // What the walk carries beside the keys in the scratch: their lengths, and where it stands in the arena.
-#[derive(Drop)]
+#[derive(Clone, Copy)]
 pub struct Carried {
     pub key_len: usize,
     pub previous_len: usize,
@@ -23,14 +25,14 @@ pub struct Carried {
 }
 
 // Behind one record: the place of the next, or the number of the question that failed.
-#[derive(Drop)]
+#[derive(Clone, Copy)]
 pub enum RecordOpened {
     More(usize, Carried),
     Refused(u64),
 }
 
 // Behind one block, or the number of the question that failed.
-#[derive(Drop)]
+#[derive(Clone, Copy)]
 pub enum BlockOpened {
     Passed(Carried),
     Refused(u64),

@@ -1,4 +1,6 @@
 // A record of the blocks beside the version at the cursor: questions 20 and 21, and behind a key's end 16 to 19 first.
+#![tactic(auto)]
+
 ghost use Rattle.std.specs.Prelude.{◌≡◌, true, not, ◌+◌, ◌*◌, ◌^◌, ◌<◌, ◌≤◌, eqb, ltb, length};
 ghost use Rattle.num.specs.Choice.{both, either};
 ghost use Rattle.num.specs.Order.{equal_bytes};
@@ -12,7 +14,7 @@ use header::Opened;
 use sstable::Kind;
 
 // A record of a block beside its key: sequence, kind, and the place of its value in the data.
-#[derive(Drop)]
+#[derive(Clone, Copy)]
 pub struct RecordInfo {
     pub seq: u64,
     pub kind: Kind,

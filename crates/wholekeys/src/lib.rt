@@ -1,4 +1,6 @@
 // Judges whether the key records of a span are whole: then nothing of them is refused, and each key stands at its scan address.
+#![tactic(auto)]
+
 ghost use Rattle.std.specs.Prelude.{◌≡◌, true, ◌+◌, ◌*◌, ◌^◌, ◌<◌, ◌≤◌, length};
 ghost use Rattle.header.specs.Internal.{usual_widths};
 ghost use Rattle.spans.specs.Internal.{Spannable};

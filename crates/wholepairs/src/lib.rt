@@ -1,4 +1,6 @@
 // Values of keys whose records are whole, each at its scan address, as pairs of offset and length, read by words of eight bytes.
+#![tactic(auto)]
+
 ghost use Rattle.std.specs.Prelude.{◌≡◌, ℕ, ◌+◌, ◌*◌, ◌^◌, ◌<◌, ◌≤◌, length};
 ghost use Rattle.std.proofs.lemmas.List.Edits.{sets};
 ghost use Rattle.encoding.specs.Encoding.{version_len_of};

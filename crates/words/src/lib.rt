@@ -1,4 +1,6 @@
 // Numbers of any width from a word of eight bytes: one load and one mask, where `num::uint` asks for the width each time.
+#![tactic(auto)]
+
 ghost use Rattle.std.specs.Prelude.{◌≡◌, true, ◌+◌, ◌≤◌, length};
 ghost use Rattle.num.specs.Number.{le_at, is_width};
 ghost use Rattle.words.specs.Mask.{mask_of};

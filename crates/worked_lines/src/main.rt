@@ -1,5 +1,7 @@
 // Document 01's lines about the worked store that have no star, through the delivered entries: scan prefix 24 builds and 25 is refused, an empty
 // block list is refused, and the CRC-32 of the digits 1 to 9.
+#![tactic(auto)]
+
 use libc::STDOUT_FILENO;
 
 // Writes a line: a label, and a number or a refusal.

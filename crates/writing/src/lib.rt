@@ -1,4 +1,6 @@
 // Writing a section from the builder's area: questions 35 to 40 of writing.
+#![tactic(auto)]
+
 ghost use Rattle.std.specs.Prelude.{◌≡◌, ◌^◌, ◌≤◌, length};
 ghost use Rattle.writer.specs.Write.{scratch_enough, write_of, section_written};
 ghost use Rattle.writing.specs.Wrote.{wrote_read};
@@ -9,7 +11,7 @@ use construct::Built;
 use encoding::Encoding;
 
 // How many bytes were written, or the number of the question that failed.
-#[derive(Drop)]
+#[derive(Clone, Copy)]
 pub enum Wrote {
     Bytes(u64),
     Refused(u64),
