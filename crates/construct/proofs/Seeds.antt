@@ -1,7 +1,7 @@
 -- One seed, and the eight.
 -- Assumes nothing.
 use mathlib.Core.Path.{◌≡◌, refl, sym, ap, ◌∙◌}
-use mathlib.Core.Bool.{Bool, true, false, not}
+use mathlib.Core.Bool.{Bool, true, false}
 use mathlib.Core.List.{List}
 use mathlib.Core.Option.{Option, some, none}
 use Prim.Native.Nat.{ℕ, zero, suc, ◌+◌, ◌-◌, ◌*◌, ◌^◌, ◌<◌, ◌≤◌}
@@ -9,7 +9,6 @@ use native.Mathlib.Nat.{sub-zero}
 use native.Mathlib.Omega.{arith}
 use lib.ListN.{length, take, drop, length-map}
 use lib.Seq.{sets, length-sets}
-use borrow.Author.Tests.{not-true, not-false}
 use Rattle.num.specs.Answer.{Answer, given, refused}
 use Rattle.num.specs.Wrapping.{mul_mod}
 use Rattle.num.proofs.Lists.{part_sets_same}
@@ -30,18 +29,18 @@ module _ (hs : List ℕ) (r : Bool) (t u : Placement) (e : served_as r t ≡ pla
   answer = ap (singles_for hs) placed_from ∙ sym (differ_unasked hs)
 
   -- a bucket had no pilot
-  pub seed_fails : (v : Placement) → not r ≡ true → served_as false v ≡ placement_of hs
+  pub seed_fails : (v : Placement) → r ≡ false → served_as false v ≡ placement_of hs
   unfolding served_as singles_for
-  seed_fails v n = ap (λ (b : Bool). singles_for hs (served_as b t)) (sym (not-true r n)) ∙ answer
+  seed_fails v n = ap (λ (b : Bool). singles_for hs (served_as b t)) (sym n) ∙ answer
 
   -- each had one
-  pub seed_free : not r ≡ false → free_count t.slots ≡ singles_in hs (order_of hs)
+  pub seed_free : r ≡ true → free_count t.slots ≡ singles_in hs (order_of hs)
   unfolding served_as
-  seed_free n = free_singles hs t (sym (ap (λ (b : Bool). served_as b t) (sym (not-false r n)) ∙ placed_from))
+  seed_free n = free_singles hs t (sym (ap (λ (b : Bool). served_as b t) (sym n) ∙ placed_from))
 
-  pub seed_serves : (v : Placement) → not r ≡ false → v ≡ place_singles hs t (order_of hs) → served_as true v ≡ placement_of hs
+  pub seed_serves : (v : Placement) → r ≡ true → v ≡ place_singles hs t (order_of hs) → served_as true v ≡ placement_of hs
   unfolding served_as singles_for
-  seed_serves v n p = ap some p ∙ ap (λ (b : Bool). singles_for hs (served_as b t)) (sym (not-false r n)) ∙ answer
+  seed_serves v n p = ap some p ∙ ap (λ (b : Bool). singles_for hs (served_as b t)) (sym n) ∙ answer
 
 -- ---- the hashes of a seed
 

@@ -14,7 +14,7 @@ use Rattle.num.proofs.Choice.{both_no, both_yes, both_true, true_both, same_trut
 use Rattle.num.proofs.Parts.{equal_bytes-number}
 use Rattle.num.proofs.Order.{equal_bytes-true, equal_bytes-same}
 use Rattle.encoding.specs.declared.Encoding.{Encoding}
-use Rattle.encoding.specs.Encoding.{Widths, magic, scan_magic, trailer_len, stride, max_scan_prefix, buckets_of, arena_start_of}
+use Rattle.encoding.specs.Encoding.{Widths, magic, scan_magic, trailer_len, max_scan_prefix, buckets_of, arena_start_of}
 use Rattle.header.specs.declared.Opened.{Opened}
 use Rattle.header.specs.Header.{stands_at_of, between, begins, allowed_widths, dimensions, scan_part_len, scan_place_of, scan_part, scan_settings, with_scan, fits_packed}
 use Rattle.header.specs.Internal.{usual_widths}
