@@ -147,6 +147,7 @@ fn open_blocks(
 }
 
 // Question 22.
+#[tactic(auto, unfolding(num::specs::Choice::both))]
 fn ends_together(data_len: usize, at: usize, o: Opened, end: usize, c: Cursor) -> bool
     ensures { result ≡ both (eqb at data_len) (both (eqb c.pos end) (both (eqb c.remaining 0) (eqb c.groups o.count))) }
 {

@@ -81,6 +81,7 @@ fn is_among(scratch: &[u32], n: usize, at: usize, j: usize) -> bool
 }
 
 // The same, of many candidates by index: if the slot is one, its index says which; what other slots have there has no say.
+#[tactic(auto, using(crate::proofs::Candidates::which_yes, crate::proofs::Candidates::which_no))]
 fn is_candidate(scratch: &[u32], n: usize, at: usize, j: usize) -> bool
     requires { Fits n scratch.now × (at < n) × (j < n) × (few < j → Indexed n j scratch.now) }
     ensures { result ≡ is_candidate n scratch.now at j }

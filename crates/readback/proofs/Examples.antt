@@ -12,7 +12,6 @@ use Rattle.sstable.specs.Limits.{limit_defs}
 use Rattle.encoding.specs.Encoding.{encoding_defs}
 use Rattle.builder.specs.declared.Builder.{Builder}
 use Rattle.area.specs.Area.{area_defs}
-use Rattle.builder.specs.Offer.{offer_defs}
 use Rattle.builder.specs.Record.{builder_defs}
 use Rattle.readback.specs.ReadBack.{reads_back_of, read_back_defs}
 use Rattle.readback.specs.Places.{head_at_of}
