@@ -4,7 +4,9 @@
 
 ghost use Rattle.std.specs.Prelude.{◌≤◌};
 
-use libc::STDOUT_FILENO;
+use std::io::Read;
+use std::rt::Files;
+use std::{fs, io};
 
 // Where the next row stands, and how many before it agree and differ.
 #[derive(Clone, Copy)]
@@ -90,7 +92,7 @@ pub fn has_sixteen(list: &[u8], at: u64, numbers: &[u64; 16]) -> bool {
 pub fn put(from: &[u8], to: &mut [u8], at: u64) {
     let start = at_most(at, to.len());
     let size = at_most(from.len() as u64, to.len() - start);
-    bytes::copy(&from[0..size], &mut to[start..start + size]);
+    to[start..start + size].copy_from_slice(&from[0..size]);
 }
 
 // The tally before the first row.
@@ -119,14 +121,15 @@ pub fn counted(list: &[u8], t: Tally, agrees: bool) -> Tally {
     }
 }
 
-fn write_count(label: &[u8], n: u64) {
-    io::write_all(STDOUT_FILENO, label);
-    io::print_decimal(STDOUT_FILENO, n);
+// The list in a file, cut off at the buffer's end.
+pub fn load<'a>(rt: &impl Files, name: &str, buffer: &'a mut [u8]) -> io::Result<&'a [u8]> {
+    let mut file = fs::open(rt, name)?.take(buffer.len() as u64);
+    let mut rest = &mut *buffer;
+    let len = io::copy(&mut file, &mut rest)?;
+    Ok(&buffer[..at_most(len, buffer.len())])
 }
 
-pub fn write_tally(name: &[u8], t: Tally) {
-    io::write_all(STDOUT_FILENO, name);
-    write_count(b" agree ", t.agree);
-    write_count(b" differ ", t.differ);
-    io::write_all(STDOUT_FILENO, b"\n");
+pub fn write_tally(rt: &impl Print, name: &[u8], t: Tally) -> io::Result<()> {
+    rt.write_all(name)?;
+    println!(rt; " agree {} differ {}", t.agree, t.differ)
 }

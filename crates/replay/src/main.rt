@@ -4,10 +4,12 @@
 
 mod leaves;
 mod lookups;
-mod opens;
+mod openings;
 mod records;
 
 use list::Tally;
+use std::io;
+use std::rt::Files;
 
 fn agrees(list: &[u8], row: u64) -> bool {
     match list::field(list, row, 0) {
@@ -16,7 +18,7 @@ fn agrees(list: &[u8], row: u64) -> bool {
         3 => leaves::trailer(list, row),
         4 => leaves::verify(list, row),
         5 => leaves::record(list, row),
-        6 => opens::open(list, row),
+        6 => openings::open(list, row),
         7 => lookups::lookup(list, row),
         8 => lookups::value(list, row),
         15 => lookups::span(list, row),
@@ -40,30 +42,26 @@ fn replay(list: &[u8]) -> Tally {
 }
 
 // Replays the list in a file, and writes a line with the counts.
-fn report(name: &[u8]) {
-    let file = os::open_read(name);
-    if file < 0 {
-        os::fail(name);
-        return;
+fn report(rt: &(impl Files + Print + Eprint), name: &str) -> io::Result<()> {
+    let mut list = [0u8; 65536];
+    match list::load(rt, name, &mut list) {
+        Ok(list) => list::write_tally(rt, name.as_bytes(), replay(list)),
+        Err(error) => eprintln!(rt; "{name}: {error}"),
     }
-    let mut list = io::large_buffer();
-    let n = io::read_full(file, &mut list);
-    libc::close(file);
-    list::write_tally(name, replay(&list[0..n]));
 }
 
-fn main() {
-    report(b"crc.bin");
-    report(b"hash.bin");
-    report(b"trailer.bin");
-    report(b"verify.bin");
-    report(b"walk.bin");
-    report(b"open.bin");
-    report(b"run.bin");
-    report(b"lookup.bin");
-    report(b"forged.bin");
-    report(b"spans.bin");
-    report(b"forged_spans.bin");
-    report(b"fills.bin");
-    report(b"finds.bin");
+fn main(rt: HostRuntime) -> io::Result<()> {
+    report(&rt, "crc.bin")?;
+    report(&rt, "hash.bin")?;
+    report(&rt, "trailer.bin")?;
+    report(&rt, "verify.bin")?;
+    report(&rt, "walk.bin")?;
+    report(&rt, "open.bin")?;
+    report(&rt, "run.bin")?;
+    report(&rt, "lookup.bin")?;
+    report(&rt, "forged.bin")?;
+    report(&rt, "spans.bin")?;
+    report(&rt, "forged_spans.bin")?;
+    report(&rt, "fills.bin")?;
+    report(&rt, "finds.bin")
 }

@@ -2,9 +2,11 @@
 // tools/replay/README.md has their form. The rows of a list share one builder; size and length hold a 7 before each question.
 #![tactic(auto)]
 
-mod written;
+mod writes;
 
 use list::Tally;
+use std::io;
+use std::rt::Files;
 
 // A builder as a row states it: a record, and bytes at the area's beginning.
 fn begin(list: &[u8], row: u64, area: &mut [u8], builder: &mut [u64; 16]) -> bool {
@@ -70,7 +72,7 @@ fn agrees(list: &[u8], row: u64, area: &mut [u8], builder: &mut [u64; 16]) -> bo
         11 => numbered(list, row, area, builder),
         12 => held(list, row, area, builder),
         13 => sized(list, row, builder),
-        14 => written::written(list, row, area, builder),
+        14 => writes::written(list, row, area, builder),
         _ => false,
     }
 }
@@ -89,23 +91,19 @@ fn replay(list: &[u8], area: &mut [u8], builder: &mut [u64; 16]) -> Tally {
 }
 
 // Replays the list in a file, and writes a line with the counts.
-fn report(name: &[u8]) {
-    let file = os::open_read(name);
-    if file < 0 {
-        os::fail(name);
-        return;
-    }
-    let mut list = io::large_buffer();
-    let n = io::read_full(file, &mut list);
-    libc::close(file);
-    let mut area = io::large_buffer();
+fn report(rt: &(impl Files + Print + Eprint), name: &str) -> io::Result<()> {
+    let mut list = [0u8; 65536];
+    let mut area = [0u8; 65536];
     let mut builder = [0u64; 16];
-    list::write_tally(name, replay(&list[0..n], &mut area, &mut builder));
+    match list::load(rt, name, &mut list) {
+        Ok(list) => list::write_tally(rt, name.as_bytes(), replay(list, &mut area, &mut builder)),
+        Err(error) => eprintln!(rt; "{name}: {error}"),
+    }
 }
 
-fn main() {
-    report(b"builds.bin");
-    report(b"refused.bin");
-    report(b"widths.bin");
-    report(b"many.bin");
+fn main(rt: HostRuntime) -> io::Result<()> {
+    report(&rt, "builds.bin")?;
+    report(&rt, "refused.bin")?;
+    report(&rt, "widths.bin")?;
+    report(&rt, "many.bin")
 }

@@ -1,0 +1,65 @@
+use mathlib.Core.Path.{ap}
+use Prim.Native.Nat.{ℕ, ◌+◌}
+use native.Mathlib.Omega.{arith}
+use Rattle.num.proofs.Regions.{region_fewer}
+use Rattle.encoding.specs.Encoding.{key_header_len_of}
+use Rattle.encoding.proofs.Widths.{widths_le}
+use Rattle.keyrecords.proofs.Arena.{writing_start, writing_done, address_small, anchor_now, suffix_now, head_inside, first_now, anchor_inside, stands_now, shared_now, shared_small, record_room, writing_turn}
+use Rattle.keyrecords.proofs.write_arena.Goals as goal
+
+pub key_header-header-requires : goal.key_header-header-requires
+key_header-header-requires c = c.requires.fits.widths
+
+pub loop-i-init : goal.loop-i-init
+loop-i-init c =
+    let a = c.args in
+    writing_start a.area.now a.count a.e a.least a.addresses.now a.output.now
+
+pub overflow_add-at : goal.overflow_add-at
+unfolding key_header_len_of
+overflow_add-at c =
+    let p = c.requires in
+    let w = widths_le c.args.e p.fits.widths in
+    omega (arith, c.key_header-header.ensures, address_small p c.loop-i.invariant c.loop-i-test.true)
+
+pub shared_len-shared-requires : goal.shared_len-shared-requires
+shared_len-shared-requires c =
+    let p = c.requires in
+    let st = c.loop-i.invariant in
+    let l = c.loop-i-test.true in
+    (anchor_inside p st l _ (anchor_now p st l _ c.anchored-anchor.ensures), first_now p st l)
+
+pub overflow_cast-addresses : goal.overflow_cast-addresses
+overflow_cast-addresses c =
+    omega (arith, address_small c.requires c.loop-i.invariant c.loop-i-test.true)
+
+pub bounds-addresses-i : goal.bounds-addresses-i
+bounds-addresses-i c = omega (arith, c.requires.places, c.loop-i.invariant.kept.size)
+
+pub put_key-at-requires : goal.put_key-at-requires
+put_key-at-requires c =
+    let p = c.requires in
+    let st = c.loop-i.invariant in
+    let l = c.loop-i-test.true in
+    let s = shared_now p st l _ _ (anchor_now p st l _ c.anchored-anchor.ensures) c.shared_len-shared.ensures in
+    record { widths = (p.fits.widths, stands_now p st l, shared_small p st l _ s); shared_in_bounds = record_room p st l _ s }
+
+pub next_head-head-requires : goal.next_head-head-requires
+next_head-head-requires c =
+    head_inside c.requires c.loop-i.invariant c.loop-i-test.true
+
+pub loop-i-preserved : goal.loop-i-preserved
+loop-i-preserved c =
+    let p = c.requires in
+    let st = c.loop-i.invariant in
+    let l = c.loop-i-test.true in
+    let k = anchor_now p st l _ c.anchored-anchor.ensures in
+    let s = shared_now p st l _ _ k c.shared_len-shared.ensures in
+    let f = suffix_now p st l _ _ (ap (λ (n : ℕ). c.loop-i.at + n) c.key_header-header.ensures) c.anchored-anchor_address.ensures in
+    writing_turn p st l _ s _ _ _ _ c.put_key-at.new.output k f c.put_key-at.ensures.value c.next_head-head.ensures c.put_key-at.auto.output c.put_key-at.ensures.output_after
+
+pub returns : goal.returns
+returns c =
+    let p = c.requires in
+    let st = c.loop-i.invariant in
+    record { output_after = writing_done p st (omega arith); region_holds = region_fewer st.noted 0 c.args.count (omega arith) (omega arith); frame = st.kept }
