@@ -1,4 +1,4 @@
-/* KIBANPH3 point indexes for a linker or a loader: link libkiban.a (rt staticlib kiban).
+/* KIBANPH3 point indexes for a linker or a loader: link libkiban.a (tools/archive builds it).
  *
  * Results. Every entry but kiban_crc32 and kiban_find_block returns 0, or the number of the first question that it answers with no
  * (enum kiban_refusal; docs/REFUSALS.md). A refusal changes nothing behind a pointer but scratch.
@@ -137,18 +137,18 @@ enum kiban_builder_place {
     KIBAN_B_ANCHOR = 11    /* place in the area */
 };
 
-/* The CRC-32 of the data: the 32-bit frame check sequence of ITU-T V.42. Stack: 1,072 bytes, and
- * 9,296 for more than 448 bytes of data. */
+/* The CRC-32 of the data: the 32-bit frame check sequence of ITU-T V.42. Stack: 1,048 bytes, and
+ * 8,232 for more than 448 bytes of data. */
 uint32_t kiban_crc32(const uint8_t *data, size_t data_len);
 
 /* Opens a section beside its backing data and its block list: pairs of offset and length, `blocks_len` numbers in all, which cover the data from
- * 0 to its end in order, without gaps (11, 22). The scratch has KIBAN_KEY_SCRATCH_LEN(longest key) bytes, else 15. On 0 the record is written. Stack: 9,452 bytes. */
+ * 0 to its end in order, without gaps (11, 22). The scratch has KIBAN_KEY_SCRATCH_LEN(longest key) bytes, else 15. On 0 the record is written. Stack: 10,361 bytes. */
 uint64_t kiban_open(const uint8_t *section, size_t section_len, const uint8_t *data, size_t data_len,
                     const uint64_t *blocks, size_t blocks_len, uint8_t *scratch, size_t scratch_len,
                     uint64_t record[KIBAN_RECORD]);
 
 /* Opens a section as kiban_open does, and writes its packed form to the output. On 0 the record is the packed one, `*len` is the number of
- * packed bytes, and the output keeps what it held behind them. Stack: 9,580 bytes. */
+ * packed bytes, and the output keeps what it held behind them. Stack: 10,457 bytes. */
 uint64_t kiban_open_packed(const uint8_t *section, size_t section_len, const uint8_t *data, size_t data_len,
                            const uint64_t *blocks, size_t blocks_len, uint8_t *scratch, size_t scratch_len,
                            uint8_t *output, size_t output_len, uint64_t record[KIBAN_RECORD], uint64_t *len);
@@ -156,7 +156,7 @@ uint64_t kiban_open_packed(const uint8_t *section, size_t section_len, const uin
 /* Looks a key up in a section, or in a packed form, by the record that its opening wrote: the version of greatest sequence not above the
  * limit, which may be a tombstone. On 0 the answer is written, six zeros for none. Where the record has checksums, kiban_crc32 of the value is
  * the answer's checksum. A packed form is given as exactly the `*len` bytes that kiban_open_packed counted, not
- * as the whole output. Stack: 152 bytes. */
+ * as the whole output. Stack: 120 bytes. */
 uint64_t kiban_lookup(const uint8_t *section, size_t section_len, const uint64_t record[KIBAN_RECORD],
                       const uint8_t *key, size_t key_len, uint64_t limit, uint64_t answer[KIBAN_ANSWER]);
 
@@ -166,7 +166,7 @@ uint64_t kiban_value(const uint8_t *data, size_t data_len, uint64_t offset, uint
 /* The values of `count` neighbouring keys from key `first` on (counted from 0, in key order) under a limit: of each key's version of greatest
  * sequence not above the limit, unless that is a tombstone. On 0 the pairs (offset, length) stand in key order in the first 2 * `*found`
  * places, and the places behind them are kept. For sections with a scan part and 4-byte addresses,
- * opened plain (27). No entry tells the place of a key among the keys. Stack: 770 bytes, 408 for one
+ * opened plain (27). No entry tells the place of a key among the keys. Stack: 666 bytes, 352 for one
  * key of a section whose widths are 4, 1, 1, at most 4, and 2. */
 uint64_t kiban_span(const uint8_t *section, size_t section_len, const uint64_t record[KIBAN_RECORD],
                     uint64_t first, uint64_t count, uint64_t limit, uint64_t *pairs, size_t pairs_len, uint64_t *found);
@@ -176,17 +176,17 @@ uint64_t kiban_span(const uint8_t *section, size_t section_len, const uint64_t r
  * zeros; each later one the record and the used bytes of the area as the last one left them. The area may grow or move in between, and
  * what stands behind the used bytes does not matter. On 0 area and record hold the entry.
  * That the section opens is promised for entries in order: keys rise, versions of a key fall in sequence, tombstones have empty values, and
- * each offset is where the value stands in the data. Stack: 1,296 bytes, and 9,520 for
+ * each offset is where the value stands in the data. Stack: 1,336 bytes, and 8,520 for
  * a value of more than 448 bytes. */
 uint64_t kiban_add(uint8_t *area, size_t area_len, uint64_t builder[KIBAN_RECORD], uint64_t tombstone,
                    const uint8_t *key, size_t key_len, const uint8_t *value, size_t value_len,
                    uint64_t sequence, uint64_t new_key, uint64_t offset);
 
-/* How many bytes kiban_write would write with this scan prefix; it asks neither 35 nor 36. On 0 `*size` is written. Stack: 176 bytes. */
+/* How many bytes kiban_write would write with this scan prefix; it asks neither 35 nor 36. On 0 `*size` is written. Stack: 152 bytes. */
 uint64_t kiban_size(const uint64_t builder[KIBAN_RECORD], uint64_t prefix, uint64_t *size);
 
 /* Writes the section of the entries added, with a scan part for spans if the prefix is 1 to 24. The same entries and prefix give the same bytes on
- * every machine. On 0 the section stands at the front of the output, `*len` is its length, and what is behind it is kept. Stack: 8,976 bytes. */
+ * every machine. On 0 the section stands at the front of the output, `*len` is its length, and what is behind it is kept. Stack: 9,016 bytes. */
 uint64_t kiban_write(const uint8_t *area, size_t area_len, const uint64_t builder[KIBAN_RECORD], uint64_t prefix,
                      uint64_t *scratch64, size_t scratch64_len, uint32_t *scratch32, size_t scratch32_len,
                      uint8_t *output, size_t output_len, uint64_t *len);
