@@ -224,7 +224,7 @@ fn totals_after(
     new_key: bool,
 ) -> Totals
     requires { Countable area.now b × (length key.now ≤ 1048576) }
-    ensures { result ≡ totals_after area.now b (record { key = key.entry.now; count = count; size = size; seq = seq; offset = offset; new_key = new_key }) }
+    ensures { result ≡ totals_after area.now b (record { key = key.now; count = count; size = size; seq = seq; offset = offset; new_key = new_key }) }
 {
     let t = b.totals;
     let longest = greater(t.max_key_len, key.len() as u64);
@@ -254,7 +254,7 @@ pub fn builder_after(
     new_key: bool,
 ) -> Builder
     requires { Countable area.now b × (length key.now ≤ 1048576) }
-    ensures { result ≡ builder_after area.now b (record { key = key.entry.now; count = count; size = size; seq = seq; offset = offset; new_key = new_key }) }
+    ensures { result ≡ builder_after area.now b (record { key = key.now; count = count; size = size; seq = seq; offset = offset; new_key = new_key }) }
 {
     let t = b.totals;
     let anchors = new_key & (t.keys % Encoding::GROUP as u64 == 0);

@@ -15,6 +15,7 @@ use builder::{Added, Sized};
 use sstable::Kind;
 use writing::Wrote;
 
+#[tactic(auto, unfolding(num::specs::Choice::choice_defs))]
 fn kind_from(tombstone: u64) -> Kind
     ensures { result ≡ (when eqb tombstone 0 then Put else Tombstone) }
 {

@@ -1,5 +1,5 @@
 // The CRC-32 of short inputs without the 8 KiB of tables that a long one is worth. A constant array is copied to the stack where
-// it is named: here 1 KiB, by which a byte takes two entries, one for each half.
+// it becomes a value: here 1 KiB, by which a byte takes two entries, one for each half.
 #![tactic(auto)]
 
 ghost use Rattle.std.specs.Prelude.{◌≡◌, true, [], ◌∷◌, ◌<◌, drop};

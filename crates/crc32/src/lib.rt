@@ -1,5 +1,5 @@
 // CRC-32, the 32-bit frame check sequence of ITU-T V.42, eight bytes at a time by eight tables.
-// A constant array is copied to the stack wherever it is named, so the table is lent once and passed on.
+// A constant array is copied to the stack where it becomes a value, so the table is taken once (`slices`), lent and passed on.
 #![tactic(auto)]
 
 ghost use Rattle.std.specs.Prelude.{◌≡◌, true, [], ◌∷◌, ◌<◌, drop};

@@ -47,6 +47,7 @@ pub fn width(max: u64) -> usize
 }
 
 // The width of value lengths, whose top bit marks a tombstone.
+#[tactic(auto, unfolding(crate::specs::Encoding::value_width_of, num::specs::Choice::choice_defs))]
 fn value_width(max: u64) -> usize
     ensures { result ≡ value_width_of max }
 {

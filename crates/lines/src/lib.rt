@@ -105,7 +105,7 @@ pub fn record_line(
     size: u64,
 ) -> usize
     requires { 2 * length key.now + 67 ≤ length out.old }
-    ensures { Wrote out.old out.new 0 (record_line (record { key = key.entry.now; seq = seq; kind = kind; place = offset; size = size })) result }
+    ensures { Wrote out.old out.new 0 (record_line (record { key = key.now; seq = seq; kind = kind; place = offset; size = size })) result }
 {
     let at = put_key(out, 0, key);
     put_numbers(out, at, seq, kind, offset, size)

@@ -79,7 +79,8 @@ fn is_packed(section: &[u8], o: Opened) -> bool
         return false;
     }
     let packed = header::packed_record(found);
-    if section.len() - Encoding::TRAILER <= packed.arena {
+    let arena = packed.arena;
+    if section.len() - Encoding::TRAILER <= arena {
         return false;
     }
     same_record(packed, o)

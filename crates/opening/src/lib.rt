@@ -211,7 +211,7 @@ fn start(o: Opened) -> Carried
     }
 }
 
-// Questions 10 to 23 of a section whose header passed. The CRC tables are lent, since a constant array is copied wherever it is named.
+// Questions 10 to 23 of a section whose header passed. The CRC tables are lent, since a constant array is copied where it becomes a value.
 pub fn contents(
     table: &[[u32; 256]; 8],
     section: &[u8],

@@ -301,9 +301,9 @@ module _ {hs s₀ s : List ℕ} {first size pilot j : ℕ} (t : Trying hs first 
     at_slot : at < length hs
     at_slot = rw e (position_lt (get_or hs (get_or s (first + j) 0) 0) pilot (length hs) fits.some_key)
 
-    candidateTaken-keeps : Keeps (length hs) (candidates_at (length hs)) (indices_at (length hs)) s₀ (candidate_taken (length hs) s at j size)
+    candidate_taken-keeps : Keeps (length hs) (candidates_at (length hs)) (indices_at (length hs)) s₀ (candidate_taken (length hs) s at j size)
     unfolding candidate_taken
-    candidateTaken-keeps =
+    candidate_taken-keeps =
         let z = layout (length hs) in
         let l = m.few in
         let one = keeps_set t.keeps (candidates_at (length hs) + j) at (omega arith) (λ p q. omega arith) in
@@ -316,7 +316,7 @@ module _ {hs s₀ s : List ℕ} {first size pilot j : ℕ} (t : Trying hs first 
         let e : length (positions_of hs (part_of s₀ first size) pilot) ≡ size = positions_length hs (part_of s₀ first size) pilot ∙ members_size m fits in
         rw (q ∙ if_true r _ _ y)
         (record {
-          keeps = candidateTaken-keeps;
+          keeps = candidate_taken-keeps;
           tried = rw e at (tried_turn t.tried (fits_kept fits t.keeps) slots_same at place_is at_slot (omega arith) (sym p ∙ y));
         })
 

@@ -184,7 +184,8 @@ pub fn span(
         let spanned = general_span(section, numbers, first, count, limit, pairs);
         return answered(spanned, found);
     }
-    if count != 1 {
+    let is_one = count == 1;
+    if !is_one {
         let spanned = record_span(section, numbers, first, count, limit, pairs);
         return answered(spanned, found);
     }

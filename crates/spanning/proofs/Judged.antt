@@ -94,7 +94,7 @@ module _ (s : List ℕ) (o : Opened) (limit address : ℕ) where
             (λ m. omega arith) l
         go (sum i r l) =
             latest (λ k. 2 ^ 64 ≤ seq k → ⊥) j i (let m = met i r in omega arith) (λ h m. let a = p.below i h in omega arith)
-            (λ m. omega arith) l
+            (λ m. omega arith) (let k : 2 ^ 64 ≤ seq i = omega (arith, l) in k)
         go (value_fields i r v l) =
             latest (λ k. seq k ≤ limit → length s < read_end s o address k → ⊥) j i
             (let m = met i r in omega arith) (λ h n m. let a = p.above i h in omega arith) (λ n m. omega arith) v l

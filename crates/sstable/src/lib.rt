@@ -134,7 +134,7 @@ pub enum Trailer {
     ChecksumMismatch,
 }
 
-// Questions 1 and 2. The tables are lent, since a constant array is copied wherever it is named.
+// Questions 1 and 2. The tables are lent, since a constant array is copied where it becomes a value.
 pub fn verify_trailer(table: &[[u32; 256]; 8], raw: &[u8]) -> Trailer
     requires { is_table table.now ≡ true }
     ensures { result ≡ trailer_of raw.now }

@@ -100,7 +100,7 @@ fn version_agrees(
 ) -> bool
     requires widths { Widths o.encoding }
     requires standing { Standing section.now o c }
-    ensures { result ≡ version_agrees section.now o c (record { key = key.entry.now; seq = found.seq; kind = found.kind; place = found.place; size = size }) }
+    ensures { result ≡ version_agrees section.now o c (record { key = key.now; seq = found.seq; kind = found.kind; place = found.place; size = size }) }
 {
     if !stored_key_equal(section, o, c, key) {
         return false;
@@ -177,7 +177,7 @@ fn version_record(
     requires table_value { is_table table.now ≡ true }
     requires widths { Widths o.encoding }
     requires standing { Standing section.now o c }
-    ensures { result ≡ version_for section.now o (record { key = key.entry.now; seq = found.seq; kind = found.kind; place = found.place; size = length value.now }) value.now (Visited.Went c) }
+    ensures { result ≡ version_for section.now o (record { key = key.now; seq = found.seq; kind = found.kind; place = found.place; size = length value.now }) value.now (Visited.Went c) }
 {
     if !version_agrees(section, o, c, key, value.len(), found) {
         return Visited::Refused(20);
@@ -203,7 +203,7 @@ pub fn visit(
     requires table_value { is_table table.now ≡ true }
     requires readable { Readable section.now o }
     requires inside { Inside section.now o end c }
-    ensures { result ≡ visit_of section.now o end c previous.now (record { key = key.entry.now; seq = found.seq; kind = found.kind; place = found.place; size = length value.now }) value.now }
+    ensures { result ≡ visit_of section.now o end c previous.now (record { key = key.now; seq = found.seq; kind = found.kind; place = found.place; size = length value.now }) value.now }
 {
     if c.remaining != 0 {
         return version_record(table, section, o, c, key, value, found);

@@ -31,12 +31,12 @@ packed_record-packed-requires c = (dimensions_yes _ _ (sym c.dimensions.ensures 
 pub overflow_sub-section : goal.overflow_sub-section
 overflow_sub-section c = let l = (begins_yes _ (sym c.begins.ensures ∙ c.if-not-begins.false)).long in omega arith
 
-pub returns-then-section-packed : goal.returns-then-section-packed
+pub returns-then-section-arena : goal.returns-then-section-arena
 unfolding flags_of
-returns-then-section-packed c =
+returns-then-section-arena c =
     packed_length_lem _ _ _ _ c.fields-found.ensures c.u32_at.ensures _ c.packed_record-packed.ensures
     (sym c.begins.ensures ∙ c.if-not-begins.false) (sym c.dimensions.ensures ∙ c.if-not-dimensions.false)
-    (sym c.fits_packed.ensures ∙ c.if-not-fits_packed.false) c.if-section-packed.true
+    (sym c.fits_packed.ensures ∙ c.if-not-fits_packed.false) c.if-section-arena.true
 
 pub returns : goal.returns
 unfolding flags_of
@@ -44,4 +44,4 @@ returns c =
     c.same_record.ensures
     ∙ packed_same _ _ _ _ c.fields-found.ensures c.u32_at.ensures _ c.packed_record-packed.ensures
     (sym c.begins.ensures ∙ c.if-not-begins.false) (sym c.dimensions.ensures ∙ c.if-not-dimensions.false)
-    (sym c.fits_packed.ensures ∙ c.if-not-fits_packed.false) c.if-section-packed.false
+    (sym c.fits_packed.ensures ∙ c.if-not-fits_packed.false) c.if-section-arena.false

@@ -22,13 +22,13 @@ record_span-spanned-requires c =
     let r = c.is_scan_record.ensures c.if-not-is_scan_record.false in
     record { numbers_value = r.held; numbers_value_2 = r.scans }
 
-pub returns-then-count-ne1 : goal.returns-then-count-ne1
-returns-then-count-ne1 c =
+pub returns-then-not-is_one : goal.returns-then-not-is_one
+returns-then-not-is_one c =
     let a = c.args in
     let r = c.is_scan_record.ensures c.if-not-is_scan_record.false in
     let over = spanned_over a.section.now a.numbers.now a.first a.count a.limit (length a.pairs.now) r.numbers refl in
     let told = told_of over a.pairs.now c.record_span-spanned.ensures in
-    let said = outcome _ told.0 a.found.now c.answered-then-count-ne1.ensures in
+    let said = outcome _ told.0 a.found.now c.answered-then-not-is_one.ensures in
     (said.0, told.1, said.1)
 
 pub one_key-written-requires : goal.one_key-written-requires
@@ -42,7 +42,7 @@ record_span-spanned-requires-in-Left c =
 pub returns-in-Written : goal.returns-in-Written
 returns-in-Written c =
     let a = c.args in
-    let one : a.count ≡ 1 = c.if-count-ne1.false in
+    let one : a.count ≡ 1 = c.if-not-is_one.false in
     let e = ap (λ (n : ℕ). span_of_numbers a.section.now a.numbers.now a.first n a.limit (length a.pairs.now)) (sym one) in
     let told = written_told _ a.pairs.now _ c.one_key-written.ensures c.in-Written.is _ e in
     let said = outcome _ told.0 a.found.now c.answered-in-Written.ensures in
@@ -51,7 +51,7 @@ returns-in-Written c =
 pub returns-in-Left : goal.returns-in-Left
 returns-in-Left c =
     let a = c.args in
-    let one : a.count ≡ 1 = c.if-count-ne1.false in
+    let one : a.count ≡ 1 = c.if-not-is_one.false in
     let kept = left_kept _ a.pairs.now _ c.one_key-written.ensures c.in-Left.is in
     let r = c.is_scan_record.ensures c.if-not-is_scan_record.false in
     let x : ℕ → List ℕ → Answer (List Pair) = λ n l. span_of_numbers a.section.now a.numbers.now a.first n a.limit (length l) in
