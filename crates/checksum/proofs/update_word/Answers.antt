@@ -1,7 +1,0 @@
-use Rattle.crc32.proofs.Table.{entries, eight_entries}
-use Rattle.checksum.proofs.update_word.Goals as goal
-
-pub returns : goal.returns
-unfolding entries
-returns c =
-    cc (eight_entries c.args.state c.args.bytes c.ranges.state.fits c.ranges.bytes.fits)
