@@ -11,7 +11,11 @@ use Rattle.num.specs.Choice.{when◌then◌else◌, both, either, one_of}
 use Rattle.num.proofs.Choice.{both_true}
 use Rattle.encoding.specs.Encoding.{trailer_len}
 use Rattle.header.specs.declared.Opened.{Opened}
-use Rattle.header.specs.declared.HeaderRead.TheVariants.{Accepted, Refused}
+use Rattle.std.specs.Prelude.{Result, Ok, Err}
+use Rattle.refusal.specs.declared.Refusal.{Refusal}
+use Rattle.refusal.specs.declared.Refusal.TheVariants as refusal
+use Rattle.refusal.specs.Refusal.{refusal_number}
+use Rattle.refusal.proofs.Asked.{refused_ok, ok_refused, same_ok, same_refusal}
 use Rattle.header.specs.Header.{begins, flags_of, fields_of, dimensions, arena_below, scan_flagged, scan_part_len, scan_place_of, scan_part, scan_settings, with_scan, scanned_of, header_of}
 use Rattle.header.specs.Facts.{Header}
 use Rattle.header.proofs.Answers.{scanned_yes, header_scanned, header_unscanned}
@@ -66,7 +70,7 @@ module _ (s : List ℕ) (b : begins s ≡ true) (d : dimensions (fields_of s) (f
       }
 
 -- an accepted header has the facts
-pub header_facts : (s : List ℕ) (o : Opened) → header_of s ≡ Accepted o → Header s o
+pub header_facts : (s : List ℕ) (o : Opened) → header_of s ≡ Ok o → Header s o
 unfolding header_of scanned_of when◌then◌else◌
 header_facts s o e =
     go (begins s) (both (dimensions f (flags_of s)) (arena_below s f)) (scan_flagged s) (scan_part s f) (scan_settings s (scan_place_of s f) f.count)
@@ -75,29 +79,26 @@ header_facts s o e =
     f : Opened
     f = fields_of s
 
-    clash : {A : Type 0} (n : ℕ) → Refused n ≡ Accepted o → A
-    clash n p = absurd (let z : ◌≡◌ {A = ℕ} 0 1 = cc in omega arith)
-
-    same : (r : Opened) → Header s r → Accepted r ≡ Accepted o → Header s o
-    same r h p = let q : r ≡ o = cc in subst (Header s) q h
+    same : (r : Opened) → Header s r → ◌≡◌ {A = Result Opened Refusal} (Ok r) (Ok o) → Header s o
+    same r h p = let q : r ≡ o = same_ok p in subst (Header s) q h
 
     go : (b d t p r : Bool) → begins s ≡ b → both (dimensions f (flags_of s)) (arena_below s f) ≡ d → scan_flagged s ≡ t
         → scan_part s f ≡ p → scan_settings s (scan_place_of s f) f.count ≡ r
         → when◌then◌else◌ b
         (when◌then◌else◌ d
-        (when◌then◌else◌ t (when◌then◌else◌ p (when◌then◌else◌ r (Accepted (with_scan f (scan_place_of s f))) (Refused 6)) (Refused 5)) (Accepted f))
-        (Refused 4))
-        (Refused 3) ≡ Accepted o → Header s o
-    go false d t p r hb hd ht hp hr e = clash 3 e
-    go true false t p r hb hd ht hp hr e = clash 4 e
+        (when◌then◌else◌ t (when◌then◌else◌ p (when◌then◌else◌ r (Ok (with_scan f (scan_place_of s f))) (Err refusal.ScanSettings)) (Err refusal.ScanPart)) (Ok f))
+        (Err refusal.Header))
+        (Err refusal.Magic) ≡ Ok o → Header s o
+    go false d t p r hb hd ht hp hr e = refused_ok e
+    go true false t p r hb hd ht hp hr e = refused_ok e
     go true true false p r hb hd ht hp hr e = let q = both_true _ _ hd in same f (unscanned_facts s hb q.0 q.1 ht) e
-    go true true true false r hb hd ht hp hr e = clash 5 e
-    go true true true true false hb hd ht hp hr e = clash 6 e
+    go true true true false r hb hd ht hp hr e = refused_ok e
+    go true true true true false hb hd ht hp hr e = refused_ok e
     go true true true true true hb hd ht hp hr e =
         let q = both_true _ _ hd in same (with_scan f (scan_place_of s f)) (scanned_facts s hb q.0 q.1 ht hp hr) e
 
 -- a refusal's number is 3, 4, 5 or 6
-pub refused_number : (s : List ℕ) (n : ℕ) → header_of s ≡ Refused n → one_of (3 ∷ 4 ∷ 5 ∷ 6 ∷ []) n ≡ true
+pub refused_number : (s : List ℕ) (n : Refusal) → header_of s ≡ Err n → one_of (3 ∷ 4 ∷ 5 ∷ 6 ∷ []) (refusal_number n) ≡ true
 unfolding header_of scanned_of when◌then◌else◌ one_of either
 refused_number s n e =
     go (begins s) (both (dimensions f (flags_of s)) (arena_below s f)) (scan_flagged s) (scan_part s f) (scan_settings s (scan_place_of s f) f.count) e
@@ -105,24 +106,22 @@ refused_number s n e =
     f : Opened
     f = fields_of s
 
-    clash : {A : Type 0} (o : Opened) → Accepted o ≡ Refused n → A
-    clash o p = absurd (let z : ◌≡◌ {A = ℕ} 0 1 = cc in omega arith)
-
-    same : (m : ℕ) → one_of (3 ∷ 4 ∷ 5 ∷ 6 ∷ []) m ≡ true → Refused m ≡ Refused n → one_of (3 ∷ 4 ∷ 5 ∷ 6 ∷ []) n ≡ true
-    same m t p = let q : m ≡ n = cc in subst (λ (k : ℕ). one_of (3 ∷ 4 ∷ 5 ∷ 6 ∷ []) k ≡ true) q t
+    same : (m : Refusal) → one_of (3 ∷ 4 ∷ 5 ∷ 6 ∷ []) (refusal_number m) ≡ true → ◌≡◌ {A = Result Opened Refusal} (Err m) (Err n)
+        → one_of (3 ∷ 4 ∷ 5 ∷ 6 ∷ []) (refusal_number n) ≡ true
+    same m t p = subst (λ (k : Refusal). one_of (3 ∷ 4 ∷ 5 ∷ 6 ∷ []) (refusal_number k) ≡ true) (same_refusal p) t
 
     go : (b d t p r : Bool)
         → when◌then◌else◌ b
         (when◌then◌else◌ d
-        (when◌then◌else◌ t (when◌then◌else◌ p (when◌then◌else◌ r (Accepted (with_scan f (scan_place_of s f))) (Refused 6)) (Refused 5)) (Accepted f))
-        (Refused 4))
-        (Refused 3) ≡ Refused n → one_of (3 ∷ 4 ∷ 5 ∷ 6 ∷ []) n ≡ true
-    go false d t p r e = same 3 refl e
-    go true false t p r e = same 4 refl e
-    go true true false p r e = clash f e
-    go true true true false r e = same 5 refl e
-    go true true true true false e = same 6 refl e
-    go true true true true true e = clash (with_scan f (scan_place_of s f)) e
+        (when◌then◌else◌ t (when◌then◌else◌ p (when◌then◌else◌ r (Ok (with_scan f (scan_place_of s f))) (Err refusal.ScanSettings)) (Err refusal.ScanPart)) (Ok f))
+        (Err refusal.Header))
+        (Err refusal.Magic) ≡ Err n → one_of (3 ∷ 4 ∷ 5 ∷ 6 ∷ []) (refusal_number n) ≡ true
+    go false d t p r e = same refusal.Magic refl e
+    go true false t p r e = same refusal.Header refl e
+    go true true false p r e = ok_refused e
+    go true true true false r e = same refusal.ScanPart refl e
+    go true true true true false e = same refusal.ScanSettings refl e
+    go true true true true true e = ok_refused e
 
 module _ (s : List ℕ) (o : Opened) (h : Header s o) where
   sizes : dimensions (with_scan o 0) (flags_of s) ≡ true
@@ -131,11 +130,11 @@ module _ (s : List ℕ) (o : Opened) (h : Header s o) where
       let d = h.dimensions in
       yes_dimensions (with_scan o 0) (flags_of s) (record { some = d.some; few = d.few; halved = d.halved; widths = d.widths }) h.flags h.start
 
-  unscanned_header : scan_flagged s ≡ false → Accepted (with_scan o 0) ≡ header_of s
+  unscanned_header : scan_flagged s ≡ false → Ok (with_scan o 0) ≡ header_of s
   unfolding with_scan scan_flagged
   unscanned_header t = header_unscanned s (with_scan o 0) (flags_of s) (header_numbers s o h) refl (yes_begins s h.begins) sizes h.below t
 
-  scanned_header : scan_flagged s ≡ true → Accepted o ≡ header_of s
+  scanned_header : scan_flagged s ≡ true → Ok o ≡ header_of s
   unfolding with_scan scan_flagged scan_part scan_place_of scan_part_len
   scanned_header t =
       let k = h.scanned (scan_flag_lem s h.flags t) in
@@ -145,14 +144,14 @@ module _ (s : List ℕ) (o : Opened) (h : Header s o) where
       ∙ header_scanned s (with_scan o 0) (flags_of s) (header_numbers s o h) refl (yes_begins s h.begins) sizes h.below t
 
 -- a header with the facts is accepted
-pub facts_header : (s : List ℕ) (o : Opened) → Header s o → header_of s ≡ Accepted o
+pub facts_header : (s : List ℕ) (o : Opened) → Header s o → header_of s ≡ Ok o
 unfolding with_scan
 facts_header s o h = go (scan_flagged s) refl
   where
-    go : (t : Bool) → scan_flagged s ≡ t → header_of s ≡ Accepted o
+    go : (t : Bool) → scan_flagged s ≡ t → header_of s ≡ Ok o
     go true t = sym (scanned_header s o h t)
-    go false t = sym (ap (λ (n : ℕ). Accepted (with_scan o n)) (h.unscanned (no_scan_flag s h.flags t)) ∙ unscanned_header s o h t)
+    go false t = sym (ap (λ (n : ℕ). Ok (with_scan o n)) (h.unscanned (no_scan_flag s h.flags t)) ∙ unscanned_header s o h t)
 
 -- the section of an accepted header has its last five bytes
-pub accepted_long : (s : List ℕ) (o : Opened) → header_of s ≡ Accepted o → 5 ≤ length s
+pub accepted_long : (s : List ℕ) (o : Opened) → header_of s ≡ Ok o → 5 ≤ length s
 accepted_long s o e = let l = (header_facts s o e).begins.long in omega arith

@@ -3,14 +3,17 @@
 use mathlib.Core.Path.{◌≡◌, refl, sym, ap, ap₂, ◌∙◌}
 use mathlib.Core.Bool.{Bool, true, false}
 use mathlib.Core.List.{List, [], ◌∷◌}
-use Prim.Native.Nat.{ℕ, ◌+◌, ◌*◌, ◌-◌, ◌^◌, ◌<◌, ◌≤◌}
+use Prim.Native.Nat.{ℕ, ◌+◌, ◌*◌, ◌^◌, ◌<◌, ◌≤◌}
 use native.Mathlib.Omega.{arith}
+use native.Mathlib.Numerals.{add-one}
 use lib.Dec.{eqb}
 use lib.ListN.{length}
-use borrow.Author.Tests.{leb-true, le-leb, ltb-true, lt-ltb, le-ltb, eqb-true, eqb-false, eq-eqb, ne_eqb}
+use borrow.Author.Tests.{leb-true, le-leb, ltb-true, lt-ltb, eqb-true, eq-eqb}
+use lib.ListN.{get_or, drop}
+use Prim.Native.Nat.{zero, suc}
 use Rattle.num.specs.Choice.{either, one_of}
 use Rattle.num.specs.Number.{Bytes, le_at}
-use Rattle.num.proofs.Choice.{both_no, both_yes, both_true, true_both, same_truth}
+use Rattle.num.proofs.Choice.{both_true, true_both, same_truth}
 use Rattle.num.proofs.Parts.{equal_bytes-number}
 use Rattle.num.proofs.Order.{equal_bytes-true, equal_bytes-same}
 use Rattle.encoding.specs.declared.Encoding.{Encoding}
@@ -34,6 +37,9 @@ pub begins_yes : (s : List ℕ) → begins s ≡ true → Begins s
 unfolding begins stands_at_of magic
 begins_yes s e = let b = both_true _ _ e in record { long = leb-true 69 (length s) b.0; magic = equal_bytes-true _ _ b.1 }
 
+pub begins_long : (s : List ℕ) → begins s ≡ true → 69 ≤ length s
+begins_long s e = (begins_yes s e).long
+
 pub yes_begins : (s : List ℕ) → Begins s → begins s ≡ true
 unfolding begins stands_at_of magic
 yes_begins s h = true_both _ _ (le-leb 69 (length s) h.long) (equal_bytes-same _ _ h.magic)
@@ -53,6 +59,21 @@ unfolding allowed_widths
 yes_widths e w =
     true_both _ _ w.address (true_both _ _ w.key (true_both _ _ w.count (true_both _ _ w.seq w.value)))
 
+-- one more of a list of widths is another
+pub one_of_more : (ws : List ℕ) (w i : ℕ) → i < length ws → eqb w (get_or ws i 0) ≡ false → one_of (drop (i + 1) ws) w ≡ one_of (drop i ws) w
+unfolding one_of either
+one_of_more [] w i h e = absurd (omega arith)
+one_of_more (x ∷ ws) w zero h e = rw e refl
+one_of_more (x ∷ ws) w (suc i) h e =
+    let more = one_of_more ws w i (omega arith) e in
+    rw (add-one (suc i)) (rw (add-one i) at more)
+
+pub one_of_found : (ws : List ℕ) (w i : ℕ) → i < length ws → w ≡ get_or ws i 0 → one_of (drop i ws) w ≡ true
+unfolding one_of either
+one_of_found [] w i h e = absurd (omega arith)
+one_of_found (x ∷ ws) w zero h e = rw (eq-eqb _ _ e) refl
+one_of_found (x ∷ ws) w (suc i) h e = one_of_found ws w i (omega arith) e
+
 first_of : (x : ℕ) (xs : List ℕ) (w : ℕ) → eqb w x ≡ true → one_of (x ∷ xs) w ≡ true
 unfolding one_of either
 first_of x xs w e = ap (λ (t : Bool). either t (one_of xs w)) e
@@ -70,15 +91,6 @@ usual_allowed e t =
     (true_both _ _ (first_of 1 (2 ∷ 4 ∷ []) e.count n.0)
     (true_both _ _ s (first_of 2 (4 ∷ []) e.value n.1)))))
     (λ s. (both_true _ _ (both_true _ _ (both_true _ _ (both_true _ _ s).1).1).1).0)
-
--- a number from 1 below 3 is 1 or 2
-pub one_or_two : (xs : List ℕ) (w : ℕ) → 1 ≤ w → w < 3 → true ≡ one_of (1 ∷ 2 ∷ xs) w
-unfolding one_of either
-one_or_two xs w l h = go (eqb w 1) refl
-  where
-    go : (t : Bool) → eqb w 1 ≡ t → true ≡ either t (either (eqb w 2) (one_of xs w))
-    go true e = refl
-    go false e = let n = eqb-false w 1 e in rw (eq-eqb w 2 (omega arith))
 
 -- question 4, but for the comparison with the section's length
 pub dimensions_yes : (o : Opened) (flags : ℕ) → dimensions o flags ≡ true
@@ -100,6 +112,9 @@ dimensions_yes o flags t =
       eqb-true _ _ e.1 ∙ ap (λ (b : ℕ). 64 + 4 * b + o.count * (o.encoding.address + 2)) (sym (eqb-true _ _ c.0)),
     )
 
+pub dimensions_hold : (o : Opened) (flags : ℕ) → dimensions o flags ≡ true → Dimensions o
+dimensions_hold o flags e = (dimensions_yes o flags e).0
+
 pub yes_dimensions : (o : Opened) (flags : ℕ) → Dimensions o → flags ≤ 3 → o.arena ≡ 64 + 4 * o.buckets + o.count * (o.encoding.address + 2)
     → dimensions o flags ≡ true
 unfolding dimensions buckets_of arena_start_of
@@ -118,21 +133,6 @@ within_yes least most n e = let b = both_true _ _ e in (leb-true least n b.0, le
 yes_within : (least most n : ℕ) → least ≤ n → n ≤ most → between least most n ≡ true
 unfolding between
 yes_within least most n l h = true_both _ _ (le-leb least n l) (le-leb n most h)
-
--- question 5, asked of the stored length and the place
-module _ (s : List ℕ) (o : Opened) (stored place : ℕ) (p : stored ≡ le_at s (length s - (8 + trailer_len)) 8) (q : place ≡ scan_place_of s o) where
-  pub scan_length : (stored ≡ scan_part_len o → ⊥) → false ≡ scan_part s o
-  unfolding scan_part
-  scan_length n = both_no _ _ (ne_eqb _ _ (λ e. n (p ∙ e)))
-
-  pub scan_early : stored ≡ scan_part_len o → place ≤ o.arena → false ≡ scan_part s o
-  unfolding scan_part
-  scan_early e h = both_yes _ _ _ (eq-eqb _ _ (sym p ∙ e)) (both_no _ _ (le-ltb o.arena (scan_place_of s o) (omega arith)))
-
-  pub scan_stands : stored ≡ scan_part_len o → o.arena < place → stands_at_of s place scan_magic ≡ scan_part s o
-  unfolding scan_part
-  scan_stands e h =
-      both_yes _ _ _ (eq-eqb _ _ (sym p ∙ e)) (both_yes _ _ _ (lt-ltb o.arena (scan_place_of s o) (omega arith)) (ap (λ (k : ℕ). stands_at_of s k scan_magic) q))
 
 -- a scan part lies before its length and the last five bytes
 pub scan_inside : (s : List ℕ) (o : Opened) → scan_part s o ≡ true → scan_place_of s o + scan_part_len o + 8 + trailer_len ≡ length s

@@ -1,13 +1,13 @@
 -- The header of a section and the record of an opened one: questions 3 to 7.
-use Rattle.std.specs.Prelude.{List, [], ◌∷◌, Bool, true, false, ℕ, ◌+◌, ◌*◌, ◌-◌, ◌/◌, ◌%◌, ◌^◌, eqb, leb, ltb, length, take, drop}
+use Rattle.std.specs.Prelude.{List, [], ◌∷◌, Bool, true, false, ℕ, ◌+◌, ◌*◌, ◌-◌, ◌/◌, ◌%◌, ◌^◌, eqb, leb, ltb, length, take, drop, Result, Ok, Err}
 use Rattle.num.specs.Choice.{when◌then◌else◌, ask◌otherwise◌then◌, both, one_of}
 use Rattle.num.specs.Number.{le_at}
 use Rattle.num.specs.Order.{equal_bytes}
 use Rattle.encoding.specs.declared.Encoding.{Encoding}
 use Rattle.encoding.specs.Encoding.{magic, scan_magic, header_len, trailer_len, scan_header_len, checksum_flag, scan_flag, stride, max_scan_prefix, buckets_of, arena_start_of}
 use Rattle.header.specs.declared.Opened.{Opened}
-use Rattle.header.specs.declared.HeaderRead.{HeaderRead}
-use Rattle.header.specs.declared.HeaderRead.TheVariants.{Accepted, Refused}
+use Rattle.refusal.specs.declared.Refusal.{Refusal}
+use Rattle.refusal.specs.declared.Refusal.TheVariants as refusal
 
 -- do these bytes stand at this place?
 unfoldable pub stands_at_of : List ℕ → ℕ → List ℕ → Bool
@@ -121,24 +121,19 @@ with_scan o scan =
       packed = o.packed;
     }
 
--- questions 5 and 6 of a section with the scan flag: the first "no" gives its number
-unfoldable pub scanned_of : List ℕ → Opened → HeaderRead
+-- questions 5 and 6 of a section with the scan flag: the first "no" is the answer
+unfoldable pub scanned_of : List ℕ → Opened → Result Opened Refusal
 scanned_of s o =
-    ask scan_part s o otherwise Refused 5 then
-    ask scan_settings s (scan_place_of s o) o.count otherwise Refused 6 then
-    Accepted (with_scan o (scan_place_of s o))
+    ask scan_part s o otherwise Err refusal.ScanPart then  -- 5
+    ask scan_settings s (scan_place_of s o) o.count otherwise Err refusal.ScanSettings then  -- 6
+    Ok (with_scan o (scan_place_of s o))
 
--- questions 3 to 6: the first "no" gives its number, and without one the header gives the record
-unfoldable pub header_of : List ℕ → HeaderRead
+-- questions 3 to 6: the first "no" is the answer, and without one the header gives the record
+unfoldable pub header_of : List ℕ → Result Opened Refusal
 header_of s =
-    ask begins s otherwise Refused 3 then
-    ask both (dimensions (fields_of s) (flags_of s)) (arena_below s (fields_of s)) otherwise Refused 4 then
-    when scan_flagged s then scanned_of s (fields_of s) else Accepted (fields_of s)
-
--- the number of the question that a header fails, or an opening, whose answer has the same type; 0 if it fails none
-unfoldable pub header_number : HeaderRead → ℕ
-header_number (Accepted o) = 0
-header_number (Refused n) = n
+    ask begins s otherwise Err refusal.Magic then  -- 3
+    ask both (dimensions (fields_of s) (flags_of s)) (arena_below s (fields_of s)) otherwise Err refusal.Header then  -- 4
+    when scan_flagged s then scanned_of s (fields_of s) else Ok (fields_of s)
 
 -- question 7: checksums, and n < 2^23?
 unfoldable pub fits_packed : Opened → Bool
@@ -164,5 +159,5 @@ arena_end_of s o = when eqb o.scan 0 then length s - trailer_len else o.scan
 
 -- for proofs alone: `unfolding header_defs` opens the definitions of this file
 unfoldable pub header_defs : ℕ
-unfolding stands_at_of between begins flags_of has_flag encoding_at fields_of allowed_widths dimensions arena_below scan_flagged scan_part_len scan_place_of scan_part scan_settings with_scan scanned_of header_of header_number fits_packed packed_record arena_end_of
+unfolding stands_at_of between begins flags_of has_flag encoding_at fields_of allowed_widths dimensions arena_below scan_flagged scan_part_len scan_place_of scan_part scan_settings with_scan scanned_of header_of fits_packed packed_record arena_end_of
 header_defs = 0

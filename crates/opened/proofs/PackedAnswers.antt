@@ -1,12 +1,11 @@
 -- Question 24 of a packed record: the answer for each way through its tests.
 -- Assumes nothing.
 use mathlib.Core.Path.{◌≡◌, sym, ap, ◌∙◌}
-use mathlib.Core.Bool.{true, false}
+use mathlib.Core.Bool.{true}
 use mathlib.Core.List.{List}
-use Prim.Native.Nat.{ℕ, ◌-◌, ◌<◌, ◌≤◌}
+use Prim.Native.Nat.{ℕ, ◌-◌, ◌<◌}
 use lib.ListN.{length}
-use borrow.Author.Tests.{le-ltb}
-use Rattle.num.proofs.Choice.{both_no, both_yes}
+use Rattle.num.proofs.Choice.{both_yes}
 use Rattle.encoding.specs.Encoding.{trailer_len}
 use Rattle.header.specs.declared.Opened.{Opened}
 use Rattle.header.specs.Header.{begins, flags_of, fields_of, dimensions, arena_below, fits_packed, packed_record}
@@ -15,25 +14,7 @@ use Rattle.header.proofs.Answers.{sizes}
 use Rattle.header.proofs.Headers.{yes_below}
 
 module _ (s : List ℕ) (o found : Opened) (flags : ℕ) (e : found ≡ fields_of s) (f : flags ≡ flags_of s) where
-  pub packed_3 : begins s ≡ false → false ≡ packed_of s o
-  unfolding packed_of
-  packed_3 b = both_no _ _ b
-
-  pub packed_4 : begins s ≡ true → dimensions found flags ≡ false → false ≡ packed_of s o
-  unfolding packed_of
-  packed_4 b d = both_yes _ _ _ b (both_no _ _ (sizes s found flags e f false d))
-
-  pub packed_7 : begins s ≡ true → dimensions found flags ≡ true → fits_packed found ≡ false → false ≡ packed_of s o
-  unfolding packed_of
-  packed_7 b d p = both_yes _ _ _ b (both_yes _ _ _ (sizes s found flags e f true d) (both_no _ _ (ap fits_packed (sym e) ∙ p)))
-
   module _ (packed : Opened) (g : packed ≡ packed_record found) where
-    pub packed_length_lem : begins s ≡ true → dimensions found flags ≡ true → fits_packed found ≡ true → length s - trailer_len ≤ packed.arena → false ≡ packed_of s o
-    unfolding packed_of arena_below
-    packed_length_lem b d p h =
-        both_yes _ _ _ b (both_yes _ _ _ (sizes s found flags e f true d) (both_yes _ _ _ (ap fits_packed (sym e) ∙ p)
-        (both_no _ _ (ap (arena_below s) (ap packed_record (sym e) ∙ sym g) ∙ le-ltb packed.arena (length s - trailer_len) h))))
-
     pub packed_same : begins s ≡ true → dimensions found flags ≡ true → fits_packed found ≡ true → packed.arena < length s - trailer_len
         → same_record_of packed o ≡ packed_of s o
     unfolding packed_of

@@ -8,8 +8,8 @@ use Rattle.num.specs.Choice.{when◌then◌else◌}
 use Rattle.num.specs.Number.{le_at}
 use Rattle.num.proofs.Choice.{both_true, true_both, false_true, if_true, if_false}
 use Rattle.header.specs.declared.Opened.{Opened}
-use Rattle.header.specs.declared.HeaderRead.{HeaderRead}
-use Rattle.header.specs.declared.HeaderRead.TheVariants.{Accepted, Refused}
+use Rattle.std.specs.Prelude.{Result, Ok, Err}
+use Rattle.refusal.specs.declared.Refusal.{Refusal}
 use Rattle.header.specs.Header.{flags_of, fields_of, arena_below, header_of, fits_packed, packed_record}
 use Rattle.header.specs.Facts.{Dimensions, PackedHeader, IsRecord, from_plain, from_packed}
 use Rattle.opened.specs.Opened.{plain_for, packed_of, is_record_of, RecordExactly}
@@ -18,14 +18,14 @@ use Rattle.header.proofs.Numbers.{fields_numbers, numbers_moved, packed_numbers}
 use Rattle.header.proofs.Questions.{begins_yes, yes_begins, dimensions_yes, yes_dimensions, packed_yes, yes_packed}
 use Rattle.opened.proofs.Same.{record_same, same_record}
 
-plain_yes : (o : Opened) (r : HeaderRead) → plain_for r o ≡ true → r ≡ Accepted o
+plain_yes : (o : Opened) (r : Result Opened Refusal) → plain_for r o ≡ true → r ≡ Ok o
 unfolding plain_for
-plain_yes o (Accepted found) e = ap Accepted (record_same found o e)
-plain_yes o (Refused n) e = false_true e
+plain_yes o (Ok found) e = ap Ok (record_same found o e)
+plain_yes o (Err x) e = false_true e
 
-yes_plain : (o : Opened) (r : HeaderRead) → r ≡ Accepted o → plain_for r o ≡ true
+yes_plain : (o : Opened) (r : Result Opened Refusal) → r ≡ Ok o → plain_for r o ≡ true
 unfolding plain_for
-yes_plain o r e = ap (λ (r : HeaderRead). plain_for r o) e ∙ same_record o o refl
+yes_plain o r e = ap (λ (r : Result Opened Refusal). plain_for r o) e ∙ same_record o o refl
 
 packed_facts : (s : List ℕ) (o : Opened) → packed_of s o ≡ true → PackedHeader s o
 unfolding packed_of packed_record fields_of flags_of
@@ -101,5 +101,5 @@ unfolding RecordExactly
 record_exactly s o = (record_facts s o, facts_record s o)
 
 -- the record that a header gave passes question 24
-pub header_record : (s : List ℕ) (o : Opened) → header_of s ≡ Accepted o → is_record_of s o ≡ true
+pub header_record : (s : List ℕ) (o : Opened) → header_of s ≡ Ok o → is_record_of s o ≡ true
 header_record s o e = facts_record s o (from_plain (header_facts s o e))

@@ -8,7 +8,14 @@ use borrow.Author.Tests.{eqb-true, eq-eqb}
 use Rattle.num.proofs.Choice.{both_true, true_both, false_true}
 use Rattle.encoding.specs.declared.Encoding.{Encoding}
 use Rattle.header.specs.declared.Opened.{Opened}
-use Rattle.opened.specs.Opened.{same_encoding, same_counts, same_record_of}
+use Rattle.std.specs.Prelude.{◌&&◌, Result, Ok, Err}
+use Rattle.std.specs.Result.{result_eq}
+use Rattle.num.specs.Choice.{both}
+use Rattle.refusal.specs.declared.Refusal.{Refusal}
+use Rattle.refusal.specs.contracts.RefusalPartialEq.TheImpl.{eq-value as refusal_eq}
+use Rattle.encoding.specs.contracts.EncodingPartialEq.TheImpl.{eq-value as encoding_eq}
+use Rattle.header.specs.contracts.OpenedPartialEq.TheImpl.{eq-value}
+use Rattle.opened.specs.Opened.{same_encoding, same_counts, same_record_of, plain_for}
 
 beq_true : (a b : Bool) → beq a b ≡ true → a ≡ b
 beq_true true true e = refl
@@ -83,3 +90,41 @@ same_record a b e = ap (same_record_of a) (sym e) ∙ itself
         (true_both _ _ (same a.arena)
         (true_both _ _ (same a.scan)
         (beq_same a.packed))))
+
+-- ---- the derived comparison is that of all numbers
+
+in_order : (a b c d e f : Bool) → (a && (b && (c && (d && (e && f))))) ≡ both a (both b (both c (both d (both e f))))
+unfolding both
+in_order false b c d e f = refl
+in_order true false c d e f = refl
+in_order true true false d e f = refl
+in_order true true true false e f = refl
+in_order true true true true false f = refl
+in_order true true true true true f = refl
+
+grouped : (a b c d e f g h : Bool)
+    → (a && (b && (c && (d && (e && (f && (g && h))))))) ≡ both (both a (both b (both c d))) (both f (both e (both g h)))
+unfolding both
+grouped false b c d e f g h = refl
+grouped true false c d e f g h = refl
+grouped true true false d e f g h = refl
+grouped true true true false e f g h = refl
+grouped true true true true false false g h = refl
+grouped true true true true false true g h = refl
+grouped true true true true true false g h = refl
+grouped true true true true true true false h = refl
+grouped true true true true true true true h = refl
+
+pub eq_same : (a b : Opened) → eq-value.it a b ≡ same_record_of a b
+unfolding same_record_of same_counts same_encoding
+eq_same a b =
+    grouped (eqb a.seed b.seed) (eqb a.min_seq b.min_seq) (eqb a.count b.count) (eqb a.buckets b.buckets)
+    (eqb a.arena b.arena) (encoding_eq.it a.encoding b.encoding) (eqb a.scan b.scan) (beq a.packed b.packed)
+    ∙ ap (λ (e : Bool). both (same_counts a b) (both e (both (eqb a.arena b.arena) (both (eqb a.scan b.scan) (beq a.packed b.packed)))))
+    (in_order (eqb a.encoding.address b.encoding.address) (eqb a.encoding.key b.encoding.key) (eqb a.encoding.count b.encoding.count)
+    (eqb a.encoding.seq b.encoding.seq) (eqb a.encoding.value b.encoding.value) (beq a.encoding.checksum b.encoding.checksum))
+
+pub is_ok : (r : Result Opened Refusal) (o : Opened) → result_eq eq-value.it refusal_eq.it r (Ok o) ≡ plain_for r o
+unfolding plain_for
+is_ok (Ok found) o = eq_same found o
+is_ok (Err e) o = refl

@@ -1,11 +1,10 @@
 -- Question 24: do these bytes give this record?
-use Rattle.std.specs.Prelude.{◌≡◌, ◌↔◌, List, Bool, true, false, ℕ, eqb}
+use Rattle.std.specs.Prelude.{◌≡◌, ◌↔◌, List, Bool, true, false, ℕ, eqb, Result, Ok, Err}
 use Rattle.std.specs.Bool.{beq}
 use Rattle.num.specs.Choice.{when◌then◌else◌, both}
 use Rattle.encoding.specs.declared.Encoding.{Encoding}
 use Rattle.header.specs.declared.Opened.{Opened}
-use Rattle.header.specs.declared.HeaderRead.{HeaderRead}
-use Rattle.header.specs.declared.HeaderRead.TheVariants.{Accepted, Refused}
+use Rattle.refusal.specs.declared.Refusal.{Refusal}
 use Rattle.header.specs.Header.{begins, flags_of, fields_of, dimensions, arena_below, header_of, fits_packed, packed_record}
 use Rattle.header.specs.Facts.{IsRecord}
 
@@ -35,9 +34,9 @@ same_record_of a b =
     (beq a.packed b.packed))))
 
 -- question 24 of a plain record: do 3 to 6 hold and give this record?
-unfoldable pub plain_for : HeaderRead → Opened → Bool
-plain_for (Accepted found) o = same_record_of found o
-plain_for (Refused n) o = false
+unfoldable pub plain_for : Result Opened Refusal → Opened → Bool
+plain_for (Ok found) o = same_record_of found o
+plain_for (Err e) o = false
 
 -- question 24 of a packed record: do 3, 4 and 7 hold, with the record's arena start in the comparison of 4, and give this record?
 unfoldable pub packed_of : List ℕ → Opened → Bool
