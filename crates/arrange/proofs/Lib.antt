@@ -1,2 +1,2 @@
-pub mod Arranging
 pub mod Falling
+pub mod Arranging

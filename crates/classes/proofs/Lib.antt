@@ -1,4 +1,3 @@
 pub mod Items
-pub mod Kept
 pub mod Loops
 pub mod Sorted

@@ -2,22 +2,23 @@
 -- Assumes nothing.
 use mathlib.Core.Path.{◌≡◌, refl, sym, ap, ◌∙◌}
 use mathlib.Core.Bool.{Bool, true, false}
-use mathlib.Core.List.{List}
+use mathlib.Core.List.{List, ◌++◌}
 use mathlib.Core.Option.{Option, some, none}
-use Prim.Native.Nat.{ℕ, zero, suc, ◌+◌, ◌-◌, ◌*◌, ◌^◌, ◌<◌, ◌≤◌}
-use native.Mathlib.Nat.{sub-zero}
+use Prim.Native.Nat.{ℕ, zero, suc, ◌+◌, ◌*◌, ◌^◌, ◌<◌, ◌≤◌}
 use native.Mathlib.Omega.{arith}
-use lib.ListN.{length, take, drop, length-map}
-use lib.Seq.{sets, length-sets}
-use Rattle.num.specs.Answer.{Answer, given, refused}
+use lib.ListN.{length, take, drop, length-map, length-append, length-drop}
+use lib.Seq.{length-take-le, take_at}
+use Rattle.std.specs.Prelude.{Result, Ok, Err}
+use Rattle.refusal.specs.declared.Refusal.{Refusal}
+use Rattle.refusal.specs.declared.Refusal.TheVariants as refusal
 use Rattle.num.specs.Wrapping.{mul_mod}
-use Rattle.num.proofs.Lists.{part_sets_same}
 use Rattle.point.specs.Hash.{hash_step, mix_of, hash_value}
 use Rattle.construction.specs.Construct.{Placement, Constructed, seed_of, hashes_of, order_of, empty_placement, place_buckets, place_singles, singles_for, placement_of, construct_from, construct_of}
 use Rattle.construction.specs.Scratch.{placement_in}
 use Rattle.construction.specs.Internal.{Room, free_count, singles_in, served_as, place_defs}
 use Rattle.construction.proofs.Placing.{free_singles, differ_unasked}
-use Rattle.area.specs.Area.{keys_from_of, keys_in_of, next_head}
+use Rattle.area.specs.Area.{keys_in_of}
+use Rattle.construct.proofs.Hashing.{keys_in_length}
 
 -- ---- one seed
 
@@ -44,43 +45,34 @@ module _ (hs : List ℕ) (r : Bool) (t u : Placement) (e : served_as r t ≡ pla
 
 -- ---- the hashes of a seed
 
-keys_from_length : (count : ℕ) (area : List ℕ) (at : ℕ) → length (keys_from_of count area at) ≡ count
-unfolding keys_from_of
-keys_from_length zero area at = refl
-keys_from_length (suc count) area at = ap suc (keys_from_length count area (next_head area at))
-
-keys_length : (area : List ℕ) (count : ℕ) → length (keys_in_of area count) ≡ count
-unfolding keys_in_of
-keys_length area count = keys_from_length count area 0
-
 hashes_length : (area : List ℕ) (count seed : ℕ) → length (hashes_of (keys_in_of area count) seed) ≡ count
 unfolding hashes_of
-hashes_length area count seed = length-map (keys_in_of area count) (λ key. hash_value key seed) ∙ keys_length area count
+hashes_length area count seed = length-map (keys_in_of area count) (λ key. hash_value key seed) ∙ keys_in_length area count
 
-module _ (area h h₂ : List ℕ) (count seed : ℕ) (stored : h₂ ≡ sets h 0 (hashes_of (keys_in_of area count) seed)) (inside : count ≤ length h) where
-  first_hashes : take count h₂ ≡ hashes_of (keys_in_of area count) seed
-  first_hashes =
-      let ys = hashes_of (keys_in_of area count) seed in
-      let n = hashes_length area count seed in
-      ap (λ (k : ℕ). take k h₂) (sym n) ∙ ap (take (length ys)) stored ∙ part_sets_same ys h 0 (omega arith)
+module _ (area h new : List ℕ) (count seed : ℕ) (stored : new ≡ hashes_of (keys_in_of area (length (take count h))) seed) (inside : count ≤ length h) where
+  new_is : new ≡ hashes_of (keys_in_of area count) seed
+  new_is = stored ∙ ap (λ (n : ℕ). hashes_of (keys_in_of area n) seed) (length-take-le count h inside)
 
-  pub hashes_part : take (count - 0) (drop 0 h₂) ≡ hashes_of (keys_in_of area count) seed
-  hashes_part = ap (λ (k : ℕ). take k h₂) (sub-zero count) ∙ first_hashes
+  new_length : length new ≡ count
+  new_length = ap length new_is ∙ hashes_length area count seed
 
-  pub hashes_first : take (length (keys_in_of area count)) h₂ ≡ hashes_of (keys_in_of area count) seed
-  hashes_first = ap (λ (k : ℕ). take k h₂) (keys_length area count) ∙ first_hashes
+  hashes_part : take count (new ++ drop count h) ≡ hashes_of (keys_in_of area count) seed
+  hashes_part = take_at new (drop count h) count new_length ∙ new_is
 
-  pub hashes_size : length h₂ ≡ length h
-  hashes_size = ap length stored ∙ length-sets h 0 (hashes_of (keys_in_of area count) seed)
+  pub hashes_first : take (length (keys_in_of area count)) (new ++ drop count h) ≡ hashes_of (keys_in_of area count) seed
+  hashes_first = ap (λ (k : ℕ). take k (new ++ drop count h)) (keys_in_length area count) ∙ hashes_part
 
-  pub hashes_room : (s : List ℕ) → 1 ≤ count → count ≤ 2 ^ 20 → 6 * count + 8 ≤ length s → Room (take (count - 0) (drop 0 h₂)) s
+  pub hashes_size : length (new ++ drop count h) ≡ length h
+  hashes_size = omega (arith, length-append new (drop count h), length-drop count h, new_length)
+
+  pub hashes_room : (s : List ℕ) → 1 ≤ count → count ≤ 2 ^ 20 → 6 * count + 8 ≤ length s → Room (take count (new ++ drop count h)) s
   unfolding place_defs
   hashes_room s p q r =
       let n = hashes_length area count seed in
       rw hashes_part (record { some_key = omega arith; few = omega arith; room = omega arith })
 
   -- what one seed answers, said of the keys
-  pub seed_answer : (r : Bool) (s : List ℕ) → served_as r (placement_in (length (take (count - 0) (drop 0 h₂))) s) ≡ placement_of (take (count - 0) (drop 0 h₂))
+  pub seed_answer : (r : Bool) (s : List ℕ) → served_as r (placement_in (length (take count (new ++ drop count h))) s) ≡ placement_of (take count (new ++ drop count h))
       → served_as r (placement_in count s) ≡ placement_of (hashes_of (keys_in_of area count) seed)
   seed_answer r s e =
       ap (λ (n : ℕ). served_as r (placement_in n s)) (sym (ap length hashes_part ∙ hashes_length area count seed)) ∙ e ∙ ap placement_of hashes_part
@@ -102,18 +94,18 @@ unfolding construct_of
 trying_start keys = record { left = 8; turns = refl; same = refl }
 
 module _ {keys : List (List ℕ)} {k : ℕ} (st : Trying keys k) where
-  pub trying_none : 8 < k → refused 40 ≡ construct_of keys
+  pub trying_none : 8 < k → Err refusal.NoSeed ≡ construct_of keys
   unfolding construct_from
   trying_none h = go st.left st.turns st.same
     where
-      go : (left : ℕ) → k + left ≡ 9 → construct_from left keys k ≡ construct_of keys → refused 40 ≡ construct_of keys
+      go : (left : ℕ) → k + left ≡ 9 → construct_from left keys k ≡ construct_of keys → Err refusal.NoSeed ≡ construct_of keys
       go zero t e = e
       go (suc left) t e = absurd (omega arith)
 
   module _ (h : k ≤ 8) where
     -- what seed k answers is the answer, or the next seed's turn
-    turn_of : (left : ℕ) → Option Placement → Answer Constructed
-    turn_of left p = elim p [ some t ↦ given (record { seed = seed_of k; placement = t }) | none ↦ construct_from left keys (k + 1) ]
+    turn_of : (left : ℕ) → Option Placement → Result Constructed Refusal
+    turn_of left p = elim p [ some t ↦ Ok (record { seed = seed_of k; placement = t }) | none ↦ construct_from left keys (k + 1) ]
 
     turn : (left : ℕ) × (k + suc left ≡ 9) × ((p : Option Placement) → p ≡ placement_of (hashes_of keys (seed_of k)) → turn_of left p ≡ construct_of keys)
     unfolding construct_from turn_of
@@ -128,9 +120,9 @@ module _ {keys : List (List ℕ)} {k : ℕ} (st : Trying keys k) where
       tried : (b : Bool) → r ≡ b → served_as b t ≡ placement_of (hashes_of keys (seed_of k))
       tried b p = ap (λ (c : Bool). served_as c t) (sym p) ∙ e ∙ ap (λ (s : ℕ). placement_of (hashes_of keys s)) this
 
-      pub trying_found : r ≡ true → given (record { seed = seed; placement = t }) ≡ construct_of keys
+      pub trying_found : r ≡ true → Ok (record { seed = seed; placement = t }) ≡ construct_of keys
       unfolding turn_of served_as
-      trying_found p = ap (λ (s : ℕ). given (record { seed = s; placement = t })) this ∙ turn.2 (some t) (tried true p)
+      trying_found p = ap (λ (s : ℕ). Ok (record { seed = s; placement = t })) this ∙ turn.2 (some t) (tried true p)
 
       pub trying_next : r ≡ false → Trying keys (k + 1)
       unfolding turn_of served_as

@@ -2,7 +2,6 @@
 #![tactic(auto)]
 
 ghost use Rattle.std.specs.Prelude.{◌≡◌, ◌+◌, ◌*◌, ◌≤◌, ◌^◌, length};
-ghost use Rattle.std.proofs.lemmas.List.Edits.{sets};
 ghost use Rattle.construction.specs.Construct.{hashes_of, placement_of, construct_of};
 ghost use Rattle.construction.specs.Scratch.{placement_in};
 ghost use Rattle.construction.specs.Internal.{Room, served_as};
@@ -10,31 +9,24 @@ ghost use Rattle.area.specs.Area.{keys_in_of};
 ghost use Rattle.construct.specs.Keys.{KeysStand};
 ghost use Rattle.construct.specs.Built.{built_as, Hashed};
 
-// The bytes of a key's head in the area: its length and its number of versions.
-const HEAD: usize = 8;
+use area::Key;
 
-// The bytes of a version in the area.
-const VERSION: usize = 25;
-
-// The hash of each key.
-fn hash_keys(area: &[u8], count: usize, seed: u64, hashes: &mut [u64])
-    requires { KeysStand area.now count × (count ≤ length hashes.old) }
-    ensures { hashes.new ≡ sets hashes.old 0 (hashes_of (keys_in_of area.now count) seed) }
+// The hash of each key, of as many as there is room for.
+fn hash_keys(area: &[u8], seed: u64, hashes: &mut [u64])
+    requires { KeysStand area.now (length hashes.old) }
+    ensures { hashes.new ≡ hashes_of (keys_in_of area.now (length hashes.old)) seed }
 {
-    let mut at = 0;
-    let mut i = 0;
-    while i < count {
-        let from = at + HEAD;
-        let end = from + num::u32_at(area, at) as usize;
-        let versions = num::u32_at(area, at + 4) as usize;
-        hashes[i] = point::hash(&area[from..end], seed);
-        at = end + VERSION * versions;
-        i += 1;
+    let mut head = 0;
+    for hash in hashes.iter_mut() {
+        let key = Key { area, head };
+        *hash = point::hash(key.bytes(), seed);
+        head = key.end();
     }
 }
 
-// Places all keys by the hashes of a seed, unless a bucket finds no pilot. Equal hashes are not asked for: they share every position, so that their
-// bucket finds none.
+// Places all keys by the hashes of a seed, unless a bucket finds no pilot. Equal hashes are not asked for: they share
+// every position, so that their bucket finds none. Hashes and scratch stay two parameters of each step: a struct over
+// both would want a clause for the `&mut` in it at each.
 fn with_seed(hashes: &[u64], scratch: &mut [u32]) -> bool
     requires { Room hashes.now scratch.old }
     ensures scratch_len_unchanged { length scratch.new ≡ length scratch.old }
@@ -49,29 +41,21 @@ fn with_seed(hashes: &[u64], scratch: &mut [u32]) -> bool
     true
 }
 
-// The first of the eight seeds under which every key finds its slot, or none.
-#[derive(Clone, Copy)]
-pub enum Built {
-    Seed(u64),
-    Exhausted,
-}
-
-// Seeds are tried until one serves; pilots and slots then stand in the scratch, and the hashes beside them.
-pub fn construct(area: &[u8], count: usize, hashes: &mut [u64], scratch: &mut [u32]) -> Built
+// The first of the eight seeds under which every key finds its slot, or none. With a seed pilots and slots stand in the
+// scratch, and the hashes beside them.
+pub fn construct(area: &[u8], count: usize, hashes: &mut [u64], scratch: &mut [u32]) -> Option<u64>
     requires le_count { (1 ≤ count) × (count ≤ 2 ^ 20) × KeysStand area.now count }
     requires count_in_bounds { (count ≤ length hashes.old) × (6 * count + 8 ≤ length scratch.old) }
     ensures scratch_after { built_as result count scratch.new ≡ construct_of (keys_in_of area.now count) }
     ensures hashed { Hashed result (keys_in_of area.now count) hashes.new }
     ensures hashes_len_unchanged { (length hashes.new ≡ length hashes.old) × (length scratch.new ≡ length scratch.old) }
 {
-    let mut k: u64 = 1;
-    while k <= 8 {
-        let seed = point::mix(num::wrapping_mul(point::STEP, k));
-        hash_keys(area, count, seed, hashes);
-        if with_seed(&hashes[0..count], scratch) {
-            return Built::Seed(seed);
+    for k in 1..=8 {
+        let seed = point::mix(point::STEP.wrapping_mul(k));
+        hash_keys(area, seed, &mut hashes[..count]);
+        if with_seed(&hashes[..count], scratch) {
+            return Some(seed);
         }
-        k += 1;
     }
-    Built::Exhausted
+    None
 }

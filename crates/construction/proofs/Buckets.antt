@@ -1,17 +1,17 @@
 -- A bucket as it stands in the scratch: its size and its members.
 -- Assumes nothing.
-use mathlib.Core.Path.{◌≡◌, ◌∙◌}
+use mathlib.Core.Path.{◌≡◌, ap₂, ◌∙◌}
 use mathlib.Core.List.{List}
-use Prim.Native.Nat.{ℕ, suc, ◌+◌, ◌/◌, ◌<◌, ◌≤◌}
+use Prim.Native.Nat.{ℕ, suc, ◌+◌, ◌-◌, ◌<◌, ◌≤◌}
 use native.Mathlib.Omega.{arith}
-use lib.ListN.{length, get_or, length-map}
-use Rattle.num.proofs.Regions.{region_at}
-use Rattle.encoding.specs.Encoding.{buckets_of}
+use lib.ListN.{length, get_or, take, drop, length-map}
+use Rattle.num.proofs.Regions.{region_at, region_part}
 use Rattle.point.specs.Hash.{bucket_of}
 use Rattle.classes.specs.Internal.{class_start, Sorted}
 use Rattle.classes.proofs.Items.{start_next, start_inside, item_is}
+use Rattle.classes.specs.Classes.{items_of}
 use Rattle.construction.specs.Construct.{bucket_count, key_buckets, members_of, size_of}
-use Rattle.construction.specs.Scratch.{starts_at, members_at}
+use Rattle.construction.specs.Scratch.{starts_at, members_at, candidates_at, scratch_defs}
 
 pub keys_length : (hs : List ℕ) → length (key_buckets hs) ≡ length hs
 unfolding key_buckets
@@ -30,9 +30,15 @@ module _ (hs : List ℕ) {s : List ℕ} (m : Sorted (key_buckets hs) (bucket_cou
   unfolding size_of members_of
   members_inside = omega (arith, start_read, start_inside (key_buckets hs) x, keys_length hs)
 
-  pub member_read : (q j : ℕ) → q ≡ (length hs + 1) / 2 + 2 + get_or s x 0 + j → j < size_of hs x → get_or s q 0 ≡ get_or (members_of hs x) j 0
-  unfolding size_of members_of members_at buckets_of
-  member_read q j e h = region_at (m.items_held x known) q j (omega (arith, start_read)) (omega arith) h
+  -- as one part
+  pub members_part : (first : ℕ) → first ≡ members_at (length hs) → candidates_at (length hs) ≤ length s
+      → take (first + get_or s (x + 1) 0 - (first + get_or s x 0)) (drop (first + get_or s x 0) s) ≡ members_of hs x
+  unfolding size_of members_of scratch_defs
+  members_part first e inside =
+      let count : first + get_or s (x + 1) 0 - (first + get_or s x 0) ≡ length (items_of (key_buckets hs) x) = omega (arith, size_read) in
+      let place : first + get_or s x 0 ≡ members_at (length hs) + class_start (key_buckets hs) x = omega (arith, start_read) in
+      ap₂ (λ (n at : ℕ). take n (drop at s)) count place
+      ∙ region_part (items_of (key_buckets hs) x) (m.items_held x known) (omega (arith, start_inside (key_buckets hs) x, keys_length hs))
 
 pub member_below : (hs : List ℕ) (x j : ℕ) → j < size_of hs x → get_or (members_of hs x) j 0 < length hs
 unfolding size_of members_of

@@ -13,3 +13,4 @@ pub mod Placed
 pub mod Seeds
 pub mod Promises
 pub mod Buckets
+pub mod Scratch

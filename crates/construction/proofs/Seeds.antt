@@ -9,7 +9,9 @@ use native.Mathlib.Omega.{arith}
 use lib.Dec.{leb, eqb}
 use lib.ListN.{get_or}
 use borrow.Author.Tests.{leb-true, eqb-true, eqb-false}
-use Rattle.num.specs.Answer.{Answer, given, refused}
+use Rattle.std.specs.Prelude.{Result, Ok, Err}
+use Rattle.refusal.specs.declared.Refusal.{Refusal}
+use Rattle.refusal.specs.declared.Refusal.TheVariants as refusal
 use Rattle.num.specs.Choice.{when◌then◌else◌}
 use Rattle.num.proofs.Choice.{false_true}
 use Rattle.num.proofs.Steps.{each_yes, first_or_later}
@@ -111,21 +113,21 @@ module _ (keys : List (List ℕ)) where
   abbrev under : ℕ → Option Placement
   under k = placement_of (hashes_of keys (seed_of k))
 
-  from_refused : (count k n : ℕ) → construct_from count keys k ≡ refused n → (n ≡ 40) × ((j : ℕ) → k ≤ j → j < k + count → Fails keys j)
+  from_refused : (count k : ℕ) (n : Refusal) → construct_from count keys k ≡ Err n → (n ≡ refusal.NoSeed) × ((j : ℕ) → k ≤ j → j < k + count → Fails keys j)
   unfolding construct_from
   from_refused zero k n e = (cc, λ j h l. absurd (omega arith))
   from_refused (suc count) k n e = go (under k) refl e (from_refused count (k + 1) n)
     where
       go : (o : Option Placement) → under k ≡ o
-          → ◌≡◌ {A = Answer Constructed} (elim o [ some t ↦ given (record { seed = seed_of k; placement = t }) | none ↦ construct_from count keys (k + 1) ]) (refused n)
-          → (construct_from count keys (k + 1) ≡ refused n → (n ≡ 40) × ((j : ℕ) → k + 1 ≤ j → j < k + 1 + count → Fails keys j))
-          → (n ≡ 40) × ((j : ℕ) → k ≤ j → j < k + suc count → Fails keys j)
+          → ◌≡◌ {A = Result Constructed Refusal} (elim o [ some t ↦ Ok (record { seed = seed_of k; placement = t }) | none ↦ construct_from count keys (k + 1) ]) (Err n)
+          → (construct_from count keys (k + 1) ≡ Err n → (n ≡ refusal.NoSeed) × ((j : ℕ) → k + 1 ≤ j → j < k + 1 + count → Fails keys j))
+          → (n ≡ refusal.NoSeed) × ((j : ℕ) → k ≤ j → j < k + suc count → Fails keys j)
       go (some t) q e rest = absurd (let z : ◌≡◌ {A = ℕ} 0 1 = cc in omega arith)
       go none q e rest =
           let r = rest e in
           (r.0, λ j h l. first_or_later (Fails keys) k j h (none_fails (hashes_of keys (seed_of k)) q) (λ m. r.1 j (omega arith) (omega arith)))
 
-  refused_from : (count k : ℕ) → ((j : ℕ) → k ≤ j → j < k + count → Fails keys j) → construct_from count keys k ≡ refused 40
+  refused_from : (count k : ℕ) → ((j : ℕ) → k ≤ j → j < k + count → Fails keys j) → construct_from count keys k ≡ Err refusal.NoSeed
   unfolding construct_from
   refused_from zero k f = refl
   refused_from (suc count) k f =
@@ -139,14 +141,14 @@ module _ (keys : List (List ℕ)) where
     placement : under m ≡ some c.placement
     first : (j : ℕ) → k ≤ j → j < m → Fails keys j
 
-  from_given : (count k : ℕ) (c : Constructed) → construct_from count keys k ≡ given c → (m : ℕ) × (m < k + count) × First k m c
+  from_given : (count k : ℕ) (c : Constructed) → construct_from count keys k ≡ Ok c → (m : ℕ) × (m < k + count) × First k m c
   unfolding construct_from
   from_given zero k c e = absurd (let z : ◌≡◌ {A = ℕ} 0 1 = cc in omega arith)
   from_given (suc count) k c e = go (under k) refl e (from_given count (k + 1) c)
     where
       go : (o : Option Placement) → under k ≡ o
-          → ◌≡◌ {A = Answer Constructed} (elim o [ some t ↦ given (record { seed = seed_of k; placement = t }) | none ↦ construct_from count keys (k + 1) ]) (given c)
-          → (construct_from count keys (k + 1) ≡ given c → (m : ℕ) × (m < k + 1 + count) × First (k + 1) m c)
+          → ◌≡◌ {A = Result Constructed Refusal} (elim o [ some t ↦ Ok (record { seed = seed_of k; placement = t }) | none ↦ construct_from count keys (k + 1) ]) (Ok c)
+          → (construct_from count keys (k + 1) ≡ Ok c → (m : ℕ) × (m < k + 1 + count) × First (k + 1) m c)
           → (m : ℕ) × (m < k + suc count) × First k m c
       go (some t) q e rest =
           let z : record { seed = seed_of k; placement = t } ≡ c = cc in
@@ -162,18 +164,18 @@ module _ (keys : List (List ℕ)) where
           λ j h l. first_or_later (Fails keys) k j h (none_fails (hashes_of keys (seed_of k)) q) (λ m. f.first j (omega arith) l) in
           (r.0, omega arith, record { from = from; seed = f.seed; placement = f.placement; first = first })
 
-  given_from : (count k m : ℕ) (c : Constructed) → m < k + count → First k m c → construct_from count keys k ≡ given c
+  given_from : (count k m : ℕ) (c : Constructed) → m < k + count → First k m c → construct_from count keys k ≡ Ok c
   unfolding construct_from
   given_from zero k m c h f = absurd (omega (arith, f.from))
   given_from (suc count) k m c h f = go (eqb k m) refl (given_from count (k + 1) m c)
     where
-      go : (b : Bool) → eqb k m ≡ b → (m < k + 1 + count → First (k + 1) m c → construct_from count keys (k + 1) ≡ given c)
-          → construct_from (suc count) keys k ≡ given c
+      go : (b : Bool) → eqb k m ≡ b → (m < k + 1 + count → First (k + 1) m c → construct_from count keys (k + 1) ≡ Ok c)
+          → construct_from (suc count) keys k ≡ Ok c
       go true q rest =
           let z = eqb-true k m q in
           let p : under k ≡ some c.placement = rw z f.placement in
           let w : seed_of k ≡ c.seed = ap seed_of z ∙ sym f.seed in
-          rw (p, construct_from) (λ i. given (record { seed = w i; placement = c.placement }))
+          rw (p, construct_from) (λ i. Ok (record { seed = w i; placement = c.placement }))
       go false q rest =
           let d = eqb-false k m q in
           let l = f.from in
@@ -201,7 +203,7 @@ module _ (keys : List (List ℕ)) where
   unfolding construct_of
   seeds =
       record {
-        refuses = (λ e k a b. (from_refused 8 1 40 e).1 k a (omega arith), λ f. refused_from 8 1 (λ j a b. f j a (omega arith)));
+        refuses = (λ e k a b. (from_refused 8 1 refusal.NoSeed e).1 k a (omega arith), λ f. refused_from 8 1 (λ j a b. f j a (omega arith)));
         never = λ n e. (from_refused 8 1 n e).0;
         answers = λ c e. given_first c (from_given 8 1 c e);
         serves = λ k c f.

@@ -4,7 +4,9 @@
 use Rattle.std.specs.Prelude.{ℕ, zero, suc, ◌+◌, ◌^◌, List, [], ◌∷◌, ◌++◌, map, Bool, true, false, not, eqb, leb, length, get_or, set, take, replicate}
 use Rattle.std.proofs.Math.Option.{Option, some, none}
 use Rattle.num.specs.Choice.{when◌then◌else◌, ask◌otherwise◌then◌, both, one_of, each_below}
-use Rattle.num.specs.Answer.{Answer, given, refused}
+use Rattle.std.specs.Prelude.{Result, Ok, Err}
+use Rattle.refusal.specs.declared.Refusal.{Refusal}
+use Rattle.refusal.specs.declared.Refusal.TheVariants as refusal
 use Rattle.num.specs.Wrapping.{mul_mod}
 use Rattle.encoding.specs.Encoding.{buckets_of}
 use Rattle.point.specs.Hash.{hash_step, mix_of, hash_value, bucket_of, position_of}
@@ -173,16 +175,16 @@ pub record Constructed : Type 0 where
   pub placement : Placement
 
 -- `count` seeds from seed k on: the first that serves, or 40
-unfoldable pub construct_from : ℕ → List (List ℕ) → ℕ → Answer Constructed
-construct_from zero keys k = refused 40
+unfoldable pub construct_from : ℕ → List (List ℕ) → ℕ → Result Constructed Refusal
+construct_from zero keys k = Err refusal.NoSeed
 construct_from (suc count) keys k =
     elim (placement_of (hashes_of keys (seed_of k))) [
-      | some t ↦ given (record { seed = seed_of k; placement = t })
+      | some t ↦ Ok (record { seed = seed_of k; placement = t })
       | none ↦ construct_from count keys (k + 1)
     ]
 
 -- the eight seeds
-unfoldable pub construct_of : List (List ℕ) → Answer Constructed
+unfoldable pub construct_of : List (List ℕ) → Result Constructed Refusal
 construct_of keys = construct_from 8 keys 1
 
 -- for proofs alone: `unfolding construct_defs` opens the definitions of this file

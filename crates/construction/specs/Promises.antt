@@ -1,8 +1,10 @@
 -- What construction promises (document 01, "Building", and question 40). `hs` is the list of the keys' hashes under a seed, of as many
 -- hashes as there are keys; numbers of keys and buckets count from 0.
+use Rattle.refusal.specs.declared.Refusal.{Refusal}
 use Rattle.std.specs.Prelude.{◌≡◌, ◌↔◌, true, false, List, ◌∷◌, ◌++◌, ℕ, ◌+◌, ◌<◌, ◌≤◌, ◌^◌, length, get_or}
 use Rattle.std.proofs.Math.Option.{some}
-use Rattle.num.specs.Answer.{given, refused}
+use Rattle.std.specs.Prelude.{Ok, Err}
+use Rattle.refusal.specs.declared.Refusal.TheVariants as refusal
 use Rattle.point.specs.Hash.{bucket_of, position_of, slot_of}
 use Rattle.construction.specs.Construct.{Placement, Constructed, seed_of, hashes_of, bucket_count, members_of, size_of, order_of, empty_placement, is_free, serves, place_buckets, place_singles, singles_for, placement_of, construct_of}
 
@@ -143,11 +145,11 @@ pub record FirstSeed (keys : List (List ℕ)) (k : ℕ) (c : Constructed) : Type
 -- construction answers with the first of the eight seeds that serves, or with 40
 pub record Seeds (keys : List (List ℕ)) : Type 0 where
   -- 40 exactly if none of the eight serves
-  pub refuses : (construct_of keys ≡ refused 40) ↔ ((k : ℕ) → 1 ≤ k → k ≤ 8 → Fails keys k)
+  pub refuses : (construct_of keys ≡ Err refusal.NoSeed) ↔ ((k : ℕ) → 1 ≤ k → k ≤ 8 → Fails keys k)
   -- and no other refusal
-  pub never : (n : ℕ) → construct_of keys ≡ refused n → n ≡ 40
-  pub answers : (c : Constructed) → construct_of keys ≡ given c → (k : ℕ) × FirstSeed keys k c
-  pub serves : (k : ℕ) (c : Constructed) → FirstSeed keys k c → construct_of keys ≡ given c
+  pub never : (n : Refusal) → construct_of keys ≡ Err n → n ≡ refusal.NoSeed
+  pub answers : (c : Constructed) → construct_of keys ≡ Ok c → (k : ℕ) × FirstSeed keys k c
+  pub serves : (k : ℕ) (c : Constructed) → FirstSeed keys k c → construct_of keys ≡ Ok c
 
 -- ---- the promises
 

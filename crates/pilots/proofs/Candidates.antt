@@ -1,27 +1,17 @@
 -- The candidates of a pilot: members join one by one, and once all have, their slots are free and different.
 -- Assumes nothing.
-use mathlib.Core.Path.{◌≡◌, refl, sym, ap, ◌∙◌, subst}
-use mathlib.Core.Bool.{Bool, true, false, not}
-use mathlib.Core.List.{List, [], ◌∷◌}
-use Prim.Native.Nat.{ℕ, zero, suc, ◌+◌, ◌<◌, ◌≤◌}
-use native.Mathlib.Nat.{not-suc-le-zero}
-use native.Mathlib.Omega.{arith}
-use lib.Dec.{eqb, ltb}
-use lib.ListN.{length, get_or, set, take, length-set, length-map}
-use lib.Seq.{get_or-set_same, get_or-set_other, get_or-take, length-take-le}
-use borrow.Author.Tests.{eq-eqb, ne_eqb, lt-ltb, le-ltb, eqb-true, eqb-false, ltb-true, ltb-false}
-use Rattle.num.specs.Choice.{when◌then◌else◌, both, either, one_of, each_below}
-use Rattle.num.specs.Internal.{RegionHolds}
-use Rattle.num.proofs.Choice.{false_true, both_true, true_both, both_no, both_yes, if_case, if_true, if_false, second_either, same_truth}
+use Rattle.std.proofs.Common.{◌≡◌, ℕ, zero, suc, ◌+◌, ◌<◌, ◌≤◌, Bool, true, false, not, List, [], ◌∷◌, ◌++◌, eqb, length, get_or, set, take, refl, sym, ap, ◌∙◌, subst, arith, not-suc-le-zero, length-take-le, get_or-set_same, get_or-set_other, get_or-take, eq-eqb, eqb-true}
+use Rattle.std.specs.List.{list_any}
+use Rattle.std.proofs.lemmas.List.{length-map, take_more_set, take_more}
+use borrow.Author.Tests.{ne_eqb, eqb-false}
+use Rattle.num.specs.Choice.{both, either, one_of, each_below}
+use Rattle.num.proofs.Choice.{false_true, true_both, both_no, second_either, same_truth}
 use Rattle.num.proofs.Lists.{map_at}
 use Rattle.num.proofs.Steps.{yes_each, each_no}
-use Rattle.num.proofs.Regions.{region_none, region_more, region_other}
 use Rattle.point.specs.Hash.{position_of}
 use Rattle.point.proofs.Slots.{position_lt}
 use Rattle.construction.specs.Construct.{is_free, different, placeable, positions_of}
-use Rattle.construction.specs.Scratch.{candidates_at, slots_at, indices_at}
-use Rattle.pilots.specs.Internal.{Fits, Members, Keeps, Indexed, Tried, Trying, Tested, part_of, few, slots_in, is_candidate, can_join, candidate_taken}
-use Rattle.pilots.proofs.Scratch.{layout, part_size, part_get, part_is, fits_kept, keeps_none, keeps_set, keeps_slots, members_size}
+use Rattle.pilots.specs.Internal.{Indexed, few}
 
 -- ---- free and different
 
@@ -71,11 +61,11 @@ module _ (slots ats : List ℕ) where
 
 -- ---- positions
 
-positions_length : (hs members : List ℕ) (pilot : ℕ) → length (positions_of hs members pilot) ≡ length members
+pub positions_length : (hs members : List ℕ) (pilot : ℕ) → length (positions_of hs members pilot) ≡ length members
 unfolding positions_of
 positions_length hs members pilot = length-map members (λ i. position_of (get_or hs i 0) pilot (length hs))
 
-positions_at : (hs members : List ℕ) (pilot j : ℕ) → j < length members → get_or (positions_of hs members pilot) j 0 ≡ position_of (get_or hs (get_or members j 0) 0) pilot (length hs)
+pub positions_at : (hs members : List ℕ) (pilot j : ℕ) → j < length members → get_or (positions_of hs members pilot) j 0 ≡ position_of (get_or hs (get_or members j 0) 0) pilot (length hs)
 unfolding positions_of
 positions_at hs members pilot j h = map_at (λ i. position_of (get_or hs i 0) pilot (length hs)) members j 0 0 h
 
@@ -83,88 +73,35 @@ positions_at hs members pilot j h = map_at (λ i. position_of (get_or hs i 0) pi
 pub positions_below : (hs members : List ℕ) (pilot j : ℕ) → 1 ≤ length hs → j < length members → get_or (positions_of hs members pilot) j 0 < length hs
 positions_below hs members pilot j l h = rw (positions_at hs members pilot j h) (position_lt (get_or hs (get_or members j 0) 0) pilot (length hs) l)
 
--- ---- the tests of one slot, as the code makes them: `indices`, `candidates` and `slots` are where the regions are
+-- ---- the test of one slot
 
-module _ {n j : ℕ} {s : List ℕ} (fits : Fits n s) (low : j ≤ n) (at : ℕ) where
-  candidates_size : length (part_of s (candidates_at n) j) ≡ j
-  candidates_size = let z = layout n in part_size s (candidates_at n) j (omega (arith, fits.room))
+pub any_one : (xs : List ℕ) (v : ℕ) → list_any (λ y. eqb y v) xs ≡ one_of xs v
+unfolding one_of either
+any_one [] v = refl
+any_one (x ∷ xs) v = go (eqb x v) refl (any_one xs v)
+  where
+    go : (b : Bool) → eqb x v ≡ b → list_any (λ y. eqb y v) xs ≡ one_of xs v → list_any (λ y. eqb y v) (x ∷ xs) ≡ either (eqb v x) (one_of xs v)
+    go true e rest = rw (e, eq-eqb v x (sym (eqb-true x v e)))
+    go false e rest = rw (e, ne_eqb v x (λ z. eqb-false x v e (sym z)), rest)
 
-  candidate_yes : (i : ℕ) → i < j → get_or s (candidates_at n + i) 0 ≡ at → is_candidate n s at j ≡ true
-  unfolding is_candidate
-  candidate_yes i h e = one_of_lem (part_of s (candidates_at n) j) at i (omega (arith, candidates_size)) (part_get s (candidates_at n) j i h ∙ e)
-
-  candidate_no : ((i : ℕ) → i < j → get_or s (candidates_at n + i) 0 ≡ at → ⊥) → is_candidate n s at j ≡ false
-  unfolding is_candidate
-  candidate_no h = none_of (part_of s (candidates_at n) j) at
-      (λ i q e. let l : i < j = omega (arith, candidates_size) in h i l (sym (part_get s (candidates_at n) j i l) ∙ e))
-
-  candidate_which : is_candidate n s at j ≡ true → (i : ℕ) × (i < j) × (get_or s (candidates_at n + i) 0 ≡ at)
-  unfolding is_candidate
-  candidate_which e =
-      let w = which_of (part_of s (candidates_at n) j) at e in
+-- looking at the one that the index names
+module _ {candidates indices : List ℕ} (own : Indexed candidates indices) (at : ℕ) where
+  named : one_of candidates at ≡ true → (get_or indices at 0 < length candidates) × (get_or candidates (get_or indices at 0) 0 ≡ at)
+  named e =
+      let w = which_of candidates at e in
       let h = w.1 in
-      let l : w.0 < j = omega (arith, candidates_size) in
-      (w.0, l, sym (part_get s (candidates_at n) j w.0 l) ∙ w.2)
+      let same : get_or indices at 0 ≡ w.0 = ap (λ (a : ℕ). get_or indices a 0) (sym w.2) ∙ own.index w.0 h in
+      (omega arith, ap (λ (i : ℕ). get_or candidates i 0) same ∙ w.2)
 
-  -- looking at each
-  pub among_yes : (candidates k v : ℕ) → candidates ≡ candidates_at n → k < j → v ≡ get_or s (candidates + k) 0 → v ≡ at → true ≡ is_candidate n s at j
-  among_yes candidates k v ec h ev e = sym (candidate_yes k h (ap (λ (c : ℕ). get_or s (c + k) 0) (sym ec) ∙ sym ev ∙ e))
+  pub which_yes : get_or indices at 0 < length candidates → eqb (get_or candidates (get_or indices at 0) 0) at ≡ one_of candidates at
+  which_yes h =
+      same_truth (eqb (get_or candidates (get_or indices at 0) 0) at) (one_of candidates at)
+      (λ e. one_of_lem candidates at (get_or indices at 0) h (eqb-true _ _ e)) (λ e. eq-eqb _ _ (named e).1)
 
-  pub among_no : (candidates k : ℕ) → candidates ≡ candidates_at n → j ≤ k → ((i : ℕ) → i < k → get_or s (candidates + i) 0 ≡ at → ⊥) → false ≡ is_candidate n s at j
-  among_no candidates k ec h none = sym (candidate_no (λ i l e. none i (omega arith) (ap (λ (c : ℕ). get_or s (c + i) 0) ec ∙ e)))
-
-  -- looking at the one that the index names
-  module _ (own : Indexed n j s) (indices which : ℕ) (ei : indices ≡ indices_at n) (ew : which ≡ get_or s (indices + at) 0) where
-    named : (i : ℕ) → i < j → get_or s (candidates_at n + i) 0 ≡ at → which ≡ i
-    named i h e = ew ∙ ap (λ (k : ℕ). get_or s (k + at) 0) ei ∙ ap (λ (a : ℕ). get_or s (indices_at n + a) 0) (sym e) ∙ own.index i h
-
-    pub which_yes : (candidates v : ℕ) → which < j → candidates ≡ candidates_at n → v ≡ get_or s (candidates + which) 0 → eqb v at ≡ is_candidate n s at j
-    which_yes candidates v h ec ev =
-        let v₂ : v ≡ get_or s (candidates_at n + which) 0 = ev ∙ ap (λ (c : ℕ). get_or s (c + which) 0) ec in
-        same_truth (eqb v at) (is_candidate n s at j) (λ e. candidate_yes which h (sym v₂ ∙ eqb-true v at e))
-        (λ e. let w = candidate_which e in eq-eqb v at (v₂ ∙ ap (λ (i : ℕ). get_or s (candidates_at n + i) 0) (named w.0 w.1 w.2) ∙ w.2))
-
-    pub which_no : j ≤ which → false ≡ is_candidate n s at j
-    which_no h = sym (candidate_no (λ i l e. let q = named i l e in omega arith))
-
-module _ (n : ℕ) (s : List ℕ) (at j size : ℕ) where
-  pub index_put : (indices : ℕ) → indices ≡ indices_at n → few < size → set s (indices + at) j ≡ (when ltb few size then set s (indices_at n + at) j else s)
-  index_put indices ei h = ap (λ (i : ℕ). set s (i + at) j) ei ∙ sym (if_true (ltb few size) _ _ (lt-ltb few size h))
-
-  pub index_spared : size ≤ few → s ≡ (when ltb few size then set s (indices_at n + at) j else s)
-  index_spared h = sym (if_false (ltb few size) _ _ (le-ltb few size h))
-
-  pub candidate_taken-length : length (candidate_taken n s at j size) ≡ length s
-  unfolding candidate_taken
-  candidate_taken-length =
-      if_case (λ (l : List ℕ). length l ≡ length s) (ltb few size) _ _ (λ _. length-set (set s (candidates_at n + j) at) (indices_at n + at) j ∙ length-set s (candidates_at n + j) at) (λ _. length-set s (candidates_at n + j) at)
-
-pub candidate_taken-is : (n : ℕ) (s : List ℕ) (at j size candidates : ℕ) {s₂ : List ℕ} → candidates ≡ candidates_at n
-    → s₂ ≡ (when ltb few size then set (set s (candidates + j) at) (indices_at n + at) j else set s (candidates + j) at) → s₂ ≡ candidate_taken n s at j size
-unfolding candidate_taken
-candidate_taken-is n s at j size candidates ec e = rw ec at e
-
-module _ (n : ℕ) (s : List ℕ) (at j slots v : ℕ) (es : slots ≡ slots_at n) (ev : v ≡ get_or s (slots + at) 0) where
-  slot_is : v ≡ get_or s (slots_at n + at) 0
-  slot_is = ev ∙ ap (λ (i : ℕ). get_or s (i + at) 0) es
-
-  pub join_taken : (v ≡ n → ⊥) → false ≡ can_join n s at j
-  unfolding can_join
-  join_taken e = both_no _ _ (ne_eqb _ _ (λ z. e (slot_is ∙ z)))
-
-  pub join_free : (c : Bool) → c ≡ is_candidate n s at j → v ≡ n → not c ≡ can_join n s at j
-  unfolding can_join
-  join_free c e z = both_yes _ _ (not c) (eq-eqb _ _ (sym slot_is ∙ z)) (ap not e)
+  pub which_no : length candidates ≤ get_or indices at 0 → false ≡ one_of candidates at
+  which_no h = sym (none_of candidates at (λ i l e. let n = (named (one_of_lem candidates at i l e)).0 in omega arith))
 
 -- ---- members join one by one
-
-pub not_true : (b : Bool) → not b ≡ true → b ≡ false
-not_true true e = false_true e
-not_true false e = refl
-
-pub not_false : (b : Bool) → not b ≡ false → b ≡ true
-not_false true e = refl
-not_false false e = false_true (sym e)
 
 -- what holds below a number and at it holds below the next
 pub last_or_before : (P : ℕ → Type 0) (j : ℕ) → ((i : ℕ) → i < j → P i) → P j → (i : ℕ) → i < j + 1 → P i
@@ -174,170 +111,57 @@ last_or_before P j before last i h = go (eqb i j) refl
     go true e = subst P (sym (eqb-true i j e)) last
     go false e = let n = eqb-false i j e in before i (omega arith)
 
--- the test of a slot
-free_at : (n at : ℕ) (s : List ℕ) → Fits n s → at < n → eqb (get_or s (slots_at n + at) 0) n ≡ is_free (slots_in n s) at
-unfolding is_free slots_in
-free_at n at s fits h =
-    let z = layout n in
-    let r = fits.room in
-    rw (part_get s (slots_at n) n at h, part_size s (slots_at n) n (omega arith))
+-- the first j of these slots are candidates, free and different
+pub record Tried (slots ats : List ℕ) (j : ℕ) (candidates indices : List ℕ) : Type 0 where
+  pub chosen : take j candidates ≡ take j ats
+  pub indexed : few < length ats → (i : ℕ) → i < j → get_or indices (get_or ats i 0) 0 ≡ i
+  pub free : (i : ℕ) → i < j → is_free slots (get_or ats i 0) ≡ true
+  pub apart : (k : ℕ) → k < j → (i : ℕ) → i < k → get_or ats i 0 ≡ get_or ats k 0 → ⊥
 
-tried_none : {n : ℕ} {slots ats s : List ℕ} → Tried n slots ats 0 s
-tried_none = record {
-  candidates = region_none;
-  indexed = λ _. record { index = λ i h. absurd (not-suc-le-zero h) };
-  free = λ i h. absurd (not-suc-le-zero h);
-  apart = λ k h. absurd (not-suc-le-zero h);
-}
+module _ {slots ats candidates indices : List ℕ} {j : ℕ} (t : Tried slots ats j candidates indices) (low : j < length ats) (room : length ats ≤ length candidates) where
+  so_far : length (take j candidates) ≡ j
+  so_far = length-take-le j candidates (omega arith)
 
-module _ {n j : ℕ} {slots ats s : List ℕ} (t : Tried n slots ats j s) (fits : Fits n s) (same : slots_in n s ≡ slots) (at : ℕ) (place : at ≡ get_or ats j 0) (slot : at < n) (low : j < n) where
-  -- the candidate is stored behind the others
-  candidates_turn : RegionHolds (set s (candidates_at n + j) at) (candidates_at n) 0 (j + 1) (λ i. get_or ats i 0)
-  candidates_turn = let z = layout n in let r = fits.room in region_more t.candidates (candidates_at n + j) at refl (omega arith) place
+  candidate_is : (i : ℕ) → i < j → get_or (take j candidates) i 0 ≡ get_or ats i 0
+  candidate_is i h = ap (λ (l : List ℕ). get_or l i 0) t.chosen ∙ get_or-take j ats i 0 h
 
-  not_before : can_join n s at j ≡ true → (i : ℕ) → i < j → get_or ats i 0 ≡ at → ⊥
-  unfolding can_join
-  not_before e i h q =
-      let w : ◌≡◌ {A = Bool} false true = sym (not_true _ (both_true _ _ e).1) ∙ candidate_yes fits (omega arith) at i h (t.candidates.value i (omega arith) h ∙ q) in
-      false_true w
+  -- a slot that is taken, or a candidate
+  pub tried_taken : is_free slots (get_or ats j 0) ≡ false → false ≡ placeable slots ats
+  tried_taken e = sym (placeable_taken slots ats j low e)
 
-  free_turn : can_join n s at j ≡ true → (i : ℕ) → i < j + 1 → is_free slots (get_or ats i 0) ≡ true
-  unfolding can_join
-  free_turn e =
-      last_or_before (λ (i : ℕ). is_free slots (get_or ats i 0) ≡ true) j t.free
-      (ap (is_free slots) (sym place) ∙ ap (λ (l : List ℕ). is_free l at) (sym same) ∙ sym (free_at n at s fits slot) ∙ (both_true _ _ e).0)
+  pub tried_twice : one_of (take j candidates) (get_or ats j 0) ≡ true → false ≡ placeable slots ats
+  tried_twice e =
+      let w = which_of (take j candidates) (get_or ats j 0) e in
+      let h = w.1 in
+      let l : w.0 < j = omega (arith, so_far) in
+      sym (placeable_twice slots ats w.0 j l low (sym (candidate_is w.0 l) ∙ w.2))
 
-  apart_turn : can_join n s at j ≡ true → (k : ℕ) → k < j + 1 → (i : ℕ) → i < k → get_or ats i 0 ≡ get_or ats k 0 → ⊥
-  apart_turn e = last_or_before (λ (k : ℕ). (i : ℕ) → i < k → get_or ats i 0 ≡ get_or ats k 0 → ⊥) j t.apart (λ i h q. not_before e i h (q ∙ sym place))
+  -- a slot that joins
+  module _ (free : is_free slots (get_or ats j 0) ≡ true) (new : one_of (take j candidates) (get_or ats j 0) ≡ false) where
+    not_before : (i : ℕ) → i < j → get_or ats i 0 ≡ get_or ats j 0 → ⊥
+    not_before i h e =
+        let w : ◌≡◌ {A = Bool} false true = sym new ∙ one_of_lem (take j candidates) (get_or ats j 0) i (omega (arith, so_far)) (candidate_is i h ∙ e) in
+        false_true w
 
-  -- with its index
-  tried_indexed : can_join n s at j ≡ true → few < length ats → Tried n slots ats (j + 1) (set (set s (candidates_at n + j) at) (indices_at n + at) j)
-  tried_indexed e many =
-      let z = layout n in
-      let r = fits.room in
-      let s₁ = set s (candidates_at n + j) at in
-      let s₂ = set s₁ (indices_at n + at) j in
-      let inside : indices_at n + at < length s₁ = omega (arith, length-set s (candidates_at n + j) at) in
-      let held : RegionHolds s₂ (candidates_at n) 0 (j + 1) (λ i. get_or ats i 0) = region_other candidates_turn (indices_at n + at) j (λ k l h q. omega arith) in
-      let old : (i : ℕ) → i < j → get_or s (indices_at n + get_or ats i 0) 0 ≡ i = λ i h.
-      ap (λ (a : ℕ). get_or s (indices_at n + a) 0) (sym (t.candidates.value i (omega arith) h)) ∙ (t.indexed many).index i h in
-      record {
-        candidates = held;
-        indexed = λ _. record {
-          index = λ i h.
-              ap (λ (a : ℕ). get_or s₂ (indices_at n + a) 0) (held.value i (omega arith) h)
-              ∙ last_or_before (λ (k : ℕ). get_or s₂ (indices_at n + get_or ats k 0) 0 ≡ k) j
-              (λ k l. get_or-set_other s₁ (indices_at n + at) (indices_at n + get_or ats k 0) j 0 (λ q. not_before e k l (omega arith))
-              ∙ get_or-set_other s (candidates_at n + j) (indices_at n + get_or ats k 0) at 0 (λ q. omega arith) ∙ old k l)
-              (ap (λ (a : ℕ). get_or s₂ (indices_at n + a) 0) (sym place) ∙ get_or-set_same s₁ (indices_at n + at) j 0 inside) i h;
-        };
-        free = free_turn e;
-        apart = apart_turn e;
+    module _ {indices₂ : List ℕ} (indexed : few < length ats → (i : ℕ) → i < j + 1 → get_or indices₂ (get_or ats i 0) 0 ≡ i) where
+      tried_joined : Tried slots ats (j + 1) (set candidates j (get_or ats j 0)) indices₂
+      tried_joined = record {
+        chosen = take_more_set candidates j (get_or ats j 0) (omega arith) ∙ ap (λ (l : List ℕ). l ++ get_or ats j 0 ∷ []) t.chosen ∙ sym (take_more ats j 0 low);
+        indexed = indexed;
+        free = last_or_before (λ (i : ℕ). is_free slots (get_or ats i 0) ≡ true) j t.free free;
+        apart = last_or_before (λ (k : ℕ). (i : ℕ) → i < k → get_or ats i 0 ≡ get_or ats k 0 → ⊥) j t.apart not_before;
       }
 
-  tried_turn : can_join n s at j ≡ true → Tried n slots ats (j + 1) (candidate_taken n s at j (length ats))
-  unfolding candidate_taken
-  tried_turn e =
-      if_case (λ (l : List ℕ). Tried n slots ats (j + 1) l) (ltb few (length ats)) _ _
-      (λ y. tried_indexed e (ltb-true _ _ y))
-      (λ y. record {
-        candidates = candidates_turn;
-        indexed = λ many. let l = ltb-false few (length ats) y in absurd (omega arith);
-        free = free_turn e;
-        apart = apart_turn e;
-      })
+    -- with its index
+    pub tried_many : get_or ats j 0 < length indices → Tried slots ats (j + 1) (set candidates j (get_or ats j 0)) (set indices (get_or ats j 0) j)
+    tried_many inside =
+        tried_joined (λ many. last_or_before (λ (k : ℕ). get_or (set indices (get_or ats j 0) j) (get_or ats k 0) 0 ≡ k) j
+        (λ k h. get_or-set_other indices (get_or ats j 0) (get_or ats k 0) j 0 (not_before k h) ∙ t.indexed many k h)
+        (get_or-set_same indices (get_or ats j 0) j 0 inside))
 
-  tried_no : can_join n s at j ≡ false → j < length ats → placeable slots ats ≡ false
-  unfolding can_join both
-  tried_no e h = go (eqb (get_or s (slots_at n + at) 0) n) refl e
-    where
-      go : (b : Bool) → eqb (get_or s (slots_at n + at) 0) n ≡ b → both b (not (is_candidate n s at j)) ≡ false → placeable slots ats ≡ false
-      go true p q =
-          let f = candidate_which fits (omega arith) at (not_false _ q) in
-          placeable_twice slots ats f.0 j f.1 h (sym (t.candidates.value f.0 (omega arith) f.1) ∙ f.2 ∙ place)
-      go false p q = placeable_taken slots ats j h (ap (is_free slots) (sym place) ∙ ap (λ (l : List ℕ). is_free l at) (sym same) ∙ sym (free_at n at s fits slot) ∙ p)
+    pub tried_few : length ats ≤ few → Tried slots ats (j + 1) (set candidates j (get_or ats j 0)) indices
+    tried_few h = tried_joined (λ many. absurd (omega arith))
 
 -- once all are tried
-module _ {n : ℕ} {slots ats s : List ℕ} (t : Tried n slots ats (length ats) s) where
-  tried_all : placeable slots ats ≡ true
-  tried_all = placeable_all slots ats t.free (λ i j p h e. t.apart j h i p e)
-
-  tried_part : Fits n s → length ats ≤ n → part_of s (candidates_at n) (length ats) ≡ ats
-  tried_part fits low =
-      let z = layout n in
-      let r = fits.room in
-      part_is s ats (candidates_at n) (length ats) (omega arith) refl (λ k h. t.candidates.value k (omega arith) h)
-
--- ---- the loop over the members
-
-pub trying_none : {hs s : List ℕ} {first size pilot : ℕ} → Trying hs first size pilot 0 s s
-trying_none = record { keeps = keeps_none; tried = tried_none }
-
-module _ {hs s₀ s : List ℕ} {first size pilot j : ℕ} (t : Trying hs first size pilot j s₀ s) (fits : Fits (length hs) s₀) (m : Members (length hs) first size s₀) where
-  -- the member that is read
-  pub member_inside : j < size → first + j < length s
-  member_inside h = omega (arith, m.inside, layout (length hs), fits.room, t.keeps.size)
-
-  member_read : j < size → get_or s (first + j) 0 ≡ get_or (part_of s₀ first size) j 0
-  member_read h = t.keeps.before (first + j) (omega (arith, m.inside)) ∙ sym (part_get s₀ first size j h)
-
-  pub member_key : j < size → get_or s (first + j) 0 < length hs
-  member_key h = omega (arith, t.keeps.before (first + j) (omega (arith, m.inside)), m.keys j h)
-
-  pub trying_indexed : j < size → few < j → Indexed (length hs) j s
-  trying_indexed h l = t.tried.indexed (omega (arith, positions_length hs (part_of s₀ first size) pilot, members_size m fits))
-
-  -- a turn: `at` is its position
-  module _ (at : ℕ) (h : j < size) (e : at ≡ position_of (get_or hs (get_or s (first + j) 0) 0) pilot (length hs)) where
-    place_is : at ≡ get_or (positions_of hs (part_of s₀ first size) pilot) j 0
-    place_is =
-        e
-        ∙ ap (λ (i : ℕ). position_of (get_or hs i 0) pilot (length hs)) (member_read h)
-        ∙ sym (positions_at hs (part_of s₀ first size) pilot j (omega (arith, members_size m fits)))
-
-    slots_same : slots_in (length hs) s ≡ slots_in (length hs) s₀
-    slots_same = keeps_slots t.keeps fits (omega arith)
-
-    at_slot : at < length hs
-    at_slot = rw e (position_lt (get_or hs (get_or s (first + j) 0) 0) pilot (length hs) fits.some_key)
-
-    candidate_taken-keeps : Keeps (length hs) (candidates_at (length hs)) (indices_at (length hs)) s₀ (candidate_taken (length hs) s at j size)
-    unfolding candidate_taken
-    candidate_taken-keeps =
-        let z = layout (length hs) in
-        let l = m.few in
-        let one = keeps_set t.keeps (candidates_at (length hs) + j) at (omega arith) (λ p q. omega arith) in
-        if_case (λ (l : List ℕ). Keeps (length hs) (candidates_at (length hs)) (indices_at (length hs)) s₀ l) (ltb few size) _ _
-        (λ _. keeps_set one (indices_at (length hs) + at) j (omega arith) (λ p q. omega arith)) (λ _. one)
-
-    pub trying_turn : {s₂ : List ℕ} {r : Bool} → r ≡ can_join (length hs) s at j → s₂ ≡ (when r then candidate_taken (length hs) s at j size else s) → r ≡ true → Trying hs first size pilot (j + 1) s₀ s₂
-    trying_turn {s₂} {r} p q y =
-        let l = m.few in
-        let e : length (positions_of hs (part_of s₀ first size) pilot) ≡ size = positions_length hs (part_of s₀ first size) pilot ∙ members_size m fits in
-        rw (q ∙ if_true r _ _ y)
-        (record {
-          keeps = candidate_taken-keeps;
-          tried = rw e at (tried_turn t.tried (fits_kept fits t.keeps) slots_same at place_is at_slot (omega arith) (sym p ∙ y));
-        })
-
-    pub trying_no : {s₂ : List ℕ} {r : Bool} → r ≡ can_join (length hs) s at j → s₂ ≡ (when r then candidate_taken (length hs) s at j size else s) → r ≡ false
-        → Tested hs (part_of s₀ first size) pilot false s₀ s₂
-    trying_no {s₂} {r} p q y =
-        let l = m.few in
-        rw (q ∙ if_false r _ _ y)
-        (record {
-          keeps = t.keeps;
-          answer = sym (tried_no t.tried (fits_kept fits t.keeps) slots_same at place_is at_slot (omega arith) (sym p ∙ y) (omega (arith, members_size m fits, positions_length hs (part_of s₀ first size) pilot)));
-          candidates = λ z. false_true z;
-        })
-
-  pub trying_done : j ≡ size → Tested hs (part_of s₀ first size) pilot true s₀ s
-  trying_done e =
-      let l = m.few in
-      let z : j ≡ length (positions_of hs (part_of s₀ first size) pilot) = omega (arith, members_size m fits, positions_length hs (part_of s₀ first size) pilot) in
-      let all = rw z at t.tried in
-      record {
-        keeps = t.keeps;
-        answer = sym (tried_all all);
-        candidates = λ y. ap (part_of s (candidates_at (length hs))) (sym (positions_length hs (part_of s₀ first size) pilot)) ∙ tried_part all (fits_kept fits t.keeps) (omega arith);
-      }
+pub tried_all : {slots ats candidates indices : List ℕ} → Tried slots ats (length ats) candidates indices → placeable slots ats ≡ true
+tried_all {slots} {ats} t = placeable_all slots ats t.free (λ i j p h e. t.apart j h i p e)

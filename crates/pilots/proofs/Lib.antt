@@ -1,6 +1,5 @@
-pub mod Scratch
-pub mod Buckets
 pub mod Candidates
+pub mod Turn
 pub mod Search
 pub mod Filling
 pub mod Placing

@@ -1,204 +1,161 @@
--- Placing one bucket, and all of them in their order.
+-- The walk over the order of the buckets: placing those that are left, from the pilots and slots so far, gives what placing all gives.
 -- Assumes nothing.
-use mathlib.Core.Path.{◌≡◌, refl, sym, ap, ap₂, ◌∙◌}
-use mathlib.Core.Bool.{Bool, true, false}
-use mathlib.Core.List.{List, ◌∷◌}
+use Rattle.std.proofs.Common.{◌≡◌, ℕ, suc, ◌+◌, ◌-◌, ◌<◌, ◌≤◌, List, [], ◌∷◌, ◌++◌, false, length, get_or, set, take, drop, refl, sym, ap, ap₂, ◌∙◌, arith, length-set, length-append, append_assoc, drop-drop}
 use mathlib.Core.Option.{Option, some, none}
-use Prim.Native.Nat.{ℕ, suc, ◌+◌, ◌-◌, ◌<◌, ◌≤◌}
-use native.Mathlib.Omega.{arith}
+use native.Mathlib.Numerals.{add-one}
 use lib.Dec.{leb}
-use lib.ListN.{length, get_or, set, drop, drop_of_length-le}
+use lib.ListN.{drop_of_length-le}
 use lib.Seq.{drop-cons}
 use borrow.Author.Tests.{le-leb, lt-leb}
 use Rattle.num.proofs.Choice.{if_true, if_false}
 use Rattle.encoding.specs.Encoding.{buckets_of}
-use Rattle.classes.specs.Internal.{class_start}
-use Rattle.construction.specs.Construct.{Placement, bucket_count, key_buckets, members_of, size_of, order_of, positions_of, filled, pilot_limit, least_pilot, bucket_placed, bucket_placed_for, place_bucket, place_buckets}
-use Rattle.construction.specs.Scratch.{members_at, candidates_at, order_at, pilots_at, slots_at, placement_in}
-use Rattle.construction.specs.Internal.{Room, Arranged, served_as}
-use Rattle.pilots.specs.Internal.{Fits, Keeps, Searched, Chosen, Bucket, OrderPlaced, Placing, part_of, slots_in}
-use Rattle.pilots.proofs.Scratch.{layout, room_fits, part_get, part_set, part_other, keeps_none, keeps_then, keeps_fewer, keeps_set, keeps_part, keeps_slots, members_same, members_size}
-use Rattle.pilots.proofs.Candidates.{positions_below}
+use Rattle.classes.specs.Internal.{Sorted}
+use Rattle.construction.specs.Construct.{Placement, bucket_count, key_buckets, members_of, size_of, order_of, placeable, positions_of, filled, pilot_limit, bucket_placed, bucket_placed_for, least_pilot, place_bucket, place_buckets}
+use Rattle.construction.specs.Scratch.{starts_at, members_at, candidates_at, order_at, pilots_at, placement_in}
+use Rattle.construction.specs.Internal.{Room, Arranged, place_defs}
+use Rattle.construction.proofs.Buckets.{member_below}
+use Rattle.construction.proofs.Order.{size_few, order_below, order_length as order_size}
+use Rattle.construction.proofs.Scratch.{front_length, order_length, order_read, front_members, arranged_parts, placement_parts}
+use Rattle.pilots.specs.Internal.{Fits, Found}
+use Rattle.pilots.proofs.Candidates.{positions_length, positions_below}
 use Rattle.pilots.proofs.Search.{least_some, least_none}
-use Rattle.construction.proofs.Order.{order_length, order_below}
-use Rattle.pilots.proofs.Buckets.{arranged_kept, start_read, order_read, bucket_members, bucket_part}
 
--- ---- one bucket of two members or more
+-- ---- the parts of the scratch
 
--- there are no more buckets than keys
-pub bucket_key : {hs s : List ℕ} {x first size : ℕ} → Bucket hs x first size s → x < length hs
-unfolding bucket_count
-bucket_key {hs} b = omega (arith, layout (length hs), b.number)
+-- what stands before the candidates, and the order of the buckets
+pub record Parts (hs s front order : List ℕ) : Type 0 where
+  pub room : Room hs s
+  pub arranged : Arranged hs s
+  pub first : front ≡ take (candidates_at (length hs)) s
+  pub order_is : order ≡ take (bucket_count hs) (drop (order_at (length hs)) s)
 
-module _ {hs s₀ s₁ : List ℕ} {x first size pilot : ℕ} (b : Bucket hs x first size s₀) (fits : Fits (length hs) s₀) (f : Searched hs (part_of s₀ first size) pilot s₀ s₁) where
-  pub placed_none : pilot ≡ pilot_limit → OrderPlaced hs (bucket_placed_for hs (placement_in (length hs) s₀) x (least_pilot hs (slots_in (length hs) s₀) x)) false s₀ s₁
-  unfolding served_as bucket_placed_for
-  placed_none e =
-      let z = layout (length hs) in
-      record {
-        keeps = keeps_fewer f.keeps (candidates_at (length hs)) (pilots_at (length hs)) (omega arith) (omega arith);
-        answer = ap (bucket_placed_for hs (placement_in (length hs) s₀) x) (sym (least_none hs (slots_in (length hs) s₀) x f.least b.part e));
-      }
-
-  module _ (h : pilot < pilot_limit) where
-    candidates-are : part_of s₁ (candidates_at (length hs)) size ≡ positions_of hs (part_of s₀ first size) pilot
-    candidates-are = ap (part_of s₁ (candidates_at (length hs))) (sym (members_size b.members fits)) ∙ f.candidates h
-
-    pub chosen : Chosen (length hs) size s₁
-    chosen = record {
-      slots = λ j l.
-          let e = sym (part_get s₁ (candidates_at (length hs)) size j l) ∙ ap (λ (p : List ℕ). get_or p j 0) candidates-are in
-          omega (arith, e, positions_below hs (part_of s₀ first size) pilot j fits.some_key (omega (arith, members_size b.members fits)));
+pub parts : {hs s front r₁ r₂ order : List ℕ} {at between count : ℕ} → Room hs s → Arranged hs s → at ≡ candidates_at (length hs) → between ≡ order_at (length hs) → count ≡ buckets_of (length hs)
+    → front ≡ take at s → r₁ ≡ drop at s → r₂ ≡ drop (between - at) r₁ → order ≡ take count r₂ → Parts hs s front order
+unfolding place_defs
+parts {hs} {s} {front} {r₁} {r₂} {order} {at} {between} {count} room a e₁ e₂ e₃ first f₁ f₂ f₃ =
+    let place : at + (between - at) ≡ order_at (length hs) = omega arith in
+    record {
+      room = room;
+      arranged = a;
+      first = first ∙ ap (λ (n : ℕ). take n s) e₁;
+      order_is = f₃ ∙ ap (take count) (f₂ ∙ ap (drop (between - at)) f₁ ∙ drop-drop (between - at) at s) ∙ ap₂ (λ (m n : ℕ). take m (drop n s)) e₃ place;
     }
 
-    module _ {s₂ : List ℕ} (k : Keeps (length hs) (order_at (length hs)) (slots_at (length hs)) s₁ s₂)
-        (e : slots_in (length hs) s₂ ≡ filled (slots_in (length hs) s₁) (part_of s₁ (candidates_at (length hs)) size) (part_of s₁ first size)) where
-      both-keep : Keeps (length hs) (candidates_at (length hs)) (slots_at (length hs)) s₀ s₂
-      both-keep =
-          let z = layout (length hs) in
-          keeps_then (keeps_fewer f.keeps (candidates_at (length hs)) (slots_at (length hs)) (omega arith) (omega arith))
-          (keeps_fewer k (candidates_at (length hs)) (slots_at (length hs)) (omega arith) (omega arith))
+module _ {hs s front order : List ℕ} (p : Parts hs s front order) where
+  pub parts_members : Sorted (key_buckets hs) (bucket_count hs) starts_at (members_at (length hs)) front
+  parts_members = front_members p.room p.arranged p.first p.order_is
 
-      slots-are : slots_in (length hs) s₂ ≡ filled (slots_in (length hs) s₀) (positions_of hs (members_of hs x) pilot) (members_of hs x)
-      slots-are =
-          let z = layout (length hs) in
-          let p = b.part in
-          let m = members_same f.keeps b.members fits in
-          let c = candidates-are in
-          let o = keeps_slots f.keeps fits (omega arith) in
-          cc
+  pub parts_read : {k : ℕ} → k < bucket_count hs → get_or order k 0 ≡ get_or (order_of hs) k 0
+  parts_read {k} h = order_read p.room p.arranged p.first p.order_is k h
 
-      pilot_inside : x < buckets_of (length hs)
-      unfolding bucket_count
-      pilot_inside = b.number
+  pub parts_below : {k : ℕ} → k < bucket_count hs → get_or order k 0 < bucket_count hs
+  parts_below {k} h = rw (parts_read h) (order_below hs k h)
 
-      module _ (q : ℕ) (eq : q ≡ pilots_at (length hs)) where
-        pilots-are : part_of (set s₂ (q + x) pilot) (pilots_at (length hs)) (buckets_of (length hs)) ≡ set (part_of s₀ (pilots_at (length hs)) (buckets_of (length hs))) x pilot
-        pilots-are =
-            let z = layout (length hs) in
-            let r = fits.room in
-            ap (λ (i : ℕ). part_of (set s₂ (i + x) pilot) (pilots_at (length hs)) (buckets_of (length hs))) eq
-            ∙ part_set s₂ (pilots_at (length hs)) (buckets_of (length hs)) x pilot pilot_inside
-            ∙ ap (λ (l : List ℕ). set l x pilot) (keeps_part both-keep (pilots_at (length hs)) (buckets_of (length hs)) (omega arith) (omega arith) (omega arith))
+  -- written back
+  module _ (between pilots slots behind : List ℕ) (room : length between ≡ length hs + 3) where
+    pub parts_arranged : Arranged hs (front ++ (between ++ (order ++ (pilots ++ (slots ++ behind)))))
+    parts_arranged = arranged_parts p.room p.arranged p.first p.order_is between (pilots ++ (slots ++ behind)) room
 
-        slots-stay : slots_in (length hs) (set s₂ (q + x) pilot) ≡ slots_in (length hs) s₂
-        unfolding slots_in
-        slots-stay =
-            let z = layout (length hs) in
-            let r = fits.room in
-            let y = both-keep.size in
-            let i = pilot_inside in
-            part_other s₂ (slots_at (length hs)) (length hs) (q + x) pilot (omega arith) (λ j l w. omega arith)
+    pub parts_placement : length pilots ≡ bucket_count hs → length slots ≡ length hs
+        → placement_in (length hs) (front ++ (between ++ (order ++ (pilots ++ (slots ++ behind))))) ≡ record { pilots = pilots; slots = slots }
+    unfolding place_defs
+    parts_placement e f =
+        let before : length (front ++ (between ++ order)) ≡ pilots_at (length hs) =
+        omega (arith, length-append front (between ++ order), length-append between order, front_length p.room p.arranged p.first p.order_is, order_length p.room p.arranged p.first p.order_is) in
+        ap (placement_in (length hs)) (ap (λ (l : List ℕ). front ++ l) (sym (append_assoc between order (pilots ++ (slots ++ behind)))) ∙ sym (append_assoc front (between ++ order) (pilots ++ (slots ++ behind))))
+        ∙ placement_parts (length hs) (front ++ (between ++ order)) pilots slots behind before e f
 
-        placement-is : placement_in (length hs) (set s₂ (q + x) pilot) ≡ bucket_placed hs (placement_in (length hs) s₀) x pilot
-        unfolding placement_in bucket_placed slots_in part_of
-        placement-is = ap₂ (λ (p l : List ℕ). record { pilots = p; slots = l }) pilots-are (slots-stay ∙ slots-are)
+-- a bucket's members, with room for their search, and the slots that it finds
+module _ (hs : List ℕ) {members : List ℕ} (x : ℕ) (em : members ≡ members_of hs x) where
+  pub members_few : length members ≤ length hs
+  unfolding size_of
+  members_few = omega (arith, ap length em, size_few hs x)
 
-        pub placed_some : OrderPlaced hs (bucket_placed_for hs (placement_in (length hs) s₀) x (least_pilot hs (slots_in (length hs) s₀) x)) true s₀ (set s₂ (q + x) pilot)
-        unfolding served_as bucket_placed_for
-        placed_some =
-            let z = layout (length hs) in
-            record {
-              keeps = keeps_set (keeps_fewer both-keep (candidates_at (length hs)) (pilots_at (length hs)) (omega arith) (omega arith)) (q + x) pilot (omega arith) (λ o l. omega arith);
-              answer =
-                  ap some placement-is
-                  ∙ sym (ap (bucket_placed_for hs (placement_in (length hs) s₀) x) (least_some hs (slots_in (length hs) s₀) x f.least b.part h));
-            }
+  pub members_fit : {s slots candidates indices : List ℕ} → Room hs s → length slots ≡ length hs → length hs ≤ length candidates → length hs ≤ length indices
+      → Fits hs members slots candidates indices
+  unfolding size_of
+  members_fit room e c i =
+      record {
+        some_key = room.some_key;
+        few = room.few;
+        size = members_few;
+        keys = λ j h. rw em (member_below hs x j (omega (arith, ap length em)));
+        slots_length = e;
+        candidates_room = c;
+        indices_room = i;
+      }
 
--- ---- one bucket
+module _ {hs slots members candidates : List ℕ} {pilot : ℕ} (f : Found hs slots members pilot candidates) where
+  pub found_length : length (take (length members) candidates) ≡ length members
+  found_length = ap length f.chosen ∙ positions_length hs members pilot
 
-module _ {hs s : List ℕ} (room : Room hs s) (st : Arranged hs s) (x : ℕ) (h : x < bucket_count hs) where
-  pub starts_inside : x + 1 < length s
-  unfolding bucket_count
-  starts_inside = let z = layout (length hs) in omega (arith, room.room)
+  pub found_below : 1 ≤ length hs → length slots ≡ length hs → (j : ℕ) → j < length (take (length members) candidates) → get_or (take (length members) candidates) j 0 < length slots
+  found_below key e j h = rw (f.chosen, e) (positions_below hs members pilot j key (omega (arith, found_length)))
 
-  -- what the code reads of a bucket
-  module _ (start end : ℕ) (es : start ≡ get_or s x 0) (ee : end ≡ get_or s (x + 1) 0) where
-    pub start_end : start ≤ end
-    start_end = omega (arith, start_read st x h)
+-- ---- one bucket after another
 
-    size_is : end - start ≡ size_of hs x
-    size_is = omega (arith, start_read st x h)
+filled-length : (slots ats members : List ℕ) → length (filled slots ats members) ≡ length slots
+unfolding filled
+filled-length slots (at ∷ ats) (i ∷ members) = filled-length (set slots at i) ats members ∙ length-set slots at i
+filled-length slots [] members = refl
+filled-length slots (at ∷ ats) [] = refl
 
-    pub placed_small : end - start < 2 → OrderPlaced hs (place_bucket hs (placement_in (length hs) s) x) true s s
-    unfolding served_as place_bucket
-    placed_small l =
-        record {
-          keeps = keeps_none;
-          answer = sym (if_false (leb 2 (size_of hs x)) _ _ (lt-leb 2 (size_of hs x) (omega (arith, size_is))));
-        }
+pub record Placing (hs : List ℕ) (t₀ : Placement) (k : ℕ) (pilots slots : List ℕ) : Type 0 where
+  pub pilots_length : length pilots ≡ bucket_count hs
+  pub slots_length : length slots ≡ length hs
+  pub rest : place_buckets hs (record { pilots = pilots; slots = slots }) (drop k (order_of hs)) ≡ place_buckets hs t₀ (order_of hs)
 
-    module _ (members : ℕ) (em : members ≡ members_at (length hs)) where
-      pub bucket_is : Bucket hs x (members + start) (end - start) s
-      bucket_is =
-          let e : members + start ≡ members_at (length hs) + class_start (key_buckets hs) x = omega (arith, start_read st x h) in
-          record {
-            number = h;
-            members = bucket_members st (room_fits room) x h (members + start) (end - start) e size_is;
-            part = bucket_part st (room_fits room) x h (members + start) (end - start) e size_is;
-          }
+module _ {hs : List ℕ} {t₀ : Placement} {k : ℕ} {pilots slots : List ℕ} (t : Placing hs t₀ k pilots slots) where
+  abbrev now : Placement
+  now = record { pilots = pilots; slots = slots }
 
-    pub placed_large : {r : Bool} {s₂ : List ℕ} → 2 ≤ end - start
-        → OrderPlaced hs (bucket_placed_for hs (placement_in (length hs) s) x (least_pilot hs (slots_in (length hs) s) x)) r s s₂ → OrderPlaced hs (place_bucket hs (placement_in (length hs) s) x) r s s₂
-    unfolding place_bucket placement_in slots_in part_of
-    placed_large l p =
-        record {
-          keeps = p.keeps;
-          answer = p.answer ∙ sym (if_true (leb 2 (size_of hs x)) _ _ (le-leb 2 (size_of hs x) (omega (arith, size_is))));
-        }
+  pub placing_done : bucket_count hs ≤ k → some now ≡ place_buckets hs t₀ (order_of hs)
+  unfolding place_buckets
+  placing_done h = sym (ap (place_buckets hs now) (drop_of_length-le (order_of hs) {i = k} (omega (arith, order_size hs)))) ∙ t.rest
 
--- ---- all buckets in their order
-
-pub room_kept : {hs s₀ s : List ℕ} {front end : ℕ} → Room hs s₀ → Keeps (length hs) front end s₀ s → Room hs s
-room_kept r k = record { some_key = r.some_key; few = r.few; room = omega (arith, r.room, k.size) }
-
-pub placing_none : {hs s : List ℕ} → Placing hs 0 s s
-placing_none = record { keeps = keeps_none; rest = refl }
-
-module _ {hs s₀ s : List ℕ} {i : ℕ} (t : Placing hs i s₀ s) (room : Room hs s₀) (st : Arranged hs s₀) where
-  pub arranged_here : Arranged hs s
-  arranged_here = arranged_kept st t.keeps
-
-  module _ (h : i < bucket_count hs) (order x : ℕ) (eo : order ≡ order_at (length hs)) (ex : x ≡ get_or s (order + i) 0) where
-    bucket-read : x ≡ get_or (order_of hs) i 0
-    bucket-read = ex ∙ ap (λ (o : ℕ). get_or s (o + i) 0) eo ∙ order_read arranged_here i h
-
-    pub bucket_number : x < bucket_count hs
-    bucket_number = rw bucket-read (order_below hs i h)
-
+  module _ (h : k < bucket_count hs) {x : ℕ} (ex : x ≡ get_or (order_of hs) k 0) {members : List ℕ} (em : members ≡ members_of hs x) where
     -- the buckets that are left, with this one first
-    next-bucket : {r : Bool} {s₂ : List ℕ} → OrderPlaced hs (place_bucket hs (placement_in (length hs) s) x) r s s₂
-        → place_buckets hs (placement_in (length hs) s₀) (order_of hs) ≡ elim (served_as r (placement_in (length hs) s₂)) [ some u ↦ place_buckets hs u (drop (suc i) (order_of hs)) | none ↦ none ]
+    next : {o : Option Placement} → place_bucket hs now x ≡ o
+        → elim o [ some u ↦ place_buckets hs u (drop (k + 1) (order_of hs)) | none ↦ none ] ≡ place_buckets hs t₀ (order_of hs)
     unfolding place_buckets
-    next-bucket p =
-        sym t.rest
-        ∙ ap (place_buckets hs (placement_in (length hs) s)) (drop-cons (order_of hs) i 0 (omega (arith, order_length hs)))
-        ∙ ap (λ (y : ℕ). place_buckets hs (placement_in (length hs) s) (y ∷ drop (suc i) (order_of hs))) (sym bucket-read)
-        ∙ ap (λ (o : Option Placement). elim o [ some u ↦ place_buckets hs u (drop (suc i) (order_of hs)) | none ↦ none ]) (sym p.answer)
+    next e =
+        ap (λ (p : Option Placement). elim p [ some u ↦ place_buckets hs u (drop (k + 1) (order_of hs)) | none ↦ none ]) (sym e)
+        ∙ ap (λ (j : ℕ). place_buckets hs now (x ∷ drop j (order_of hs))) (add-one k)
+        ∙ ap (λ (y : ℕ). place_buckets hs now (y ∷ drop (suc k) (order_of hs))) ex
+        ∙ sym (ap (place_buckets hs now) (drop-cons (order_of hs) k 0 (omega (arith, order_size hs))))
+        ∙ t.rest
 
-    pub placing_turn : {r : Bool} {s₂ : List ℕ} → OrderPlaced hs (place_bucket hs (placement_in (length hs) s) x) r s s₂ → r ≡ true → Placing hs (i + 1) s₀ s₂
-    unfolding served_as
-    placing_turn {r} {s₂} p y =
-        let e : i + 1 ≡ suc i = omega arith in
+    size_is : length members ≡ size_of hs x
+    unfolding size_of
+    size_is = ap length em
+
+    pub placing_small : length members < 2 → Placing hs t₀ (k + 1) pilots slots
+    unfolding place_bucket
+    placing_small l =
         record {
-          keeps = keeps_then t.keeps p.keeps;
-          rest = ap (λ (k : ℕ). place_buckets hs (placement_in (length hs) s₂) (drop k (order_of hs))) e
-              ∙ sym (next-bucket (rw y at p));
+          pilots_length = t.pilots_length;
+          slots_length = t.slots_length;
+          rest = next (if_false (leb 2 (size_of hs x)) _ _ (lt-leb 2 (size_of hs x) (omega (arith, size_is))));
         }
 
-    pub placing_failed : {r : Bool} {s₂ : List ℕ} → OrderPlaced hs (place_bucket hs (placement_in (length hs) s) x) r s s₂ → r ≡ false
-        → (length s₂ ≡ length s₀) × Arranged hs s₂ × (served_as false (placement_in (length hs) s₂) ≡ place_buckets hs (placement_in (length hs) s₀) (order_of hs))
-    unfolding served_as
-    placing_failed p n =
-        let k = keeps_then t.keeps p.keeps in
-        (k.size, arranged_kept st k, sym (next-bucket (rw n at p)))
+    module _ (large : 2 ≤ length members) where
+      placed : {o : Option ℕ} → least_pilot hs slots x ≡ o → place_bucket hs now x ≡ bucket_placed_for hs now x o
+      unfolding place_bucket
+      placed e = if_true (leb 2 (size_of hs x)) _ _ (le-leb 2 (size_of hs x) (omega (arith, size_is))) ∙ ap (bucket_placed_for hs now x) e
 
-  pub placing_done : bucket_count hs ≤ i
-      → (length s ≡ length s₀) × Arranged hs s × (served_as true (placement_in (length hs) s) ≡ place_buckets hs (placement_in (length hs) s₀) (order_of hs))
-  unfolding served_as place_buckets
-  placing_done h =
-      let l : length (order_of hs) ≤ i = omega (arith, order_length hs) in (
-        t.keeps.size,
-        arranged_here,
-        sym (ap (place_buckets hs (placement_in (length hs) s)) (drop_of_length-le (order_of hs) l)) ∙ t.rest,
-      )
+      pub placing_failed : ((p : ℕ) → p < pilot_limit → placeable slots (positions_of hs members p) ≡ false) → none ≡ place_buckets hs t₀ (order_of hs)
+      unfolding bucket_placed_for
+      placing_failed lower = next (placed (least_none hs slots x em lower))
+
+      pub placing_turn : {pilot : ℕ} {candidates slots₂ : List ℕ} → Found hs slots members pilot candidates → slots₂ ≡ filled slots (take (length members) candidates) members
+          → Placing hs t₀ (k + 1) (set pilots x pilot) slots₂
+      unfolding bucket_placed_for bucket_placed
+      placing_turn {pilot} {candidates} {slots₂} f e =
+          let same : slots₂ ≡ filled slots (positions_of hs (members_of hs x) pilot) (members_of hs x) =
+          e ∙ ap (λ (l : List ℕ). filled slots l members) f.chosen ∙ ap (λ (l : List ℕ). filled slots (positions_of hs l pilot) l) em in
+          record {
+            pilots_length = length-set pilots x pilot ∙ t.pilots_length;
+            slots_length = ap length e ∙ filled-length slots (take (length members) candidates) members ∙ t.slots_length;
+            rest = ap (λ (l : List ℕ). place_buckets hs (record { pilots = set pilots x pilot; slots = l }) (drop (k + 1) (order_of hs))) same
+                ∙ next (placed (least_some hs slots x em f));
+          }

@@ -1,3 +1,2 @@
+pub mod Free
 pub mod Loop
-pub mod Step
-pub mod Stores

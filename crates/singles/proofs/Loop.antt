@@ -1,77 +1,111 @@
--- The walk over the order of the buckets: what is left to place, from what stands in the scratch, gives what was to be placed at first.
+-- The walk over the order of the buckets: what is left to place, from the pilots and slots so far, gives what was to be placed at first.
 -- Assumes nothing.
-use mathlib.Core.Path.{◌≡◌, refl, sym, ap, ◌∙◌, subst}
-use mathlib.Core.List.{List, ◌∷◌}
-use Prim.Native.Nat.{ℕ, suc, ◌+◌, ◌*◌, ◌/◌, ◌<◌, ◌≤◌}
+use Rattle.std.proofs.Common.{◌≡◌, ℕ, suc, ◌+◌, ◌-◌, ◌^◌, ◌<◌, ◌≤◌, Bool, true, false, List, ◌∷◌, eqb, length, get_or, take, drop, set, refl, sym, ap, ap₂, ◌∙◌, subst, arith, length-take-le, eqb-true}
 use native.Mathlib.Numerals.{add-one}
-use native.Mathlib.Omega.{arith}
-use lib.ListN.{length, get_or, drop, drop_of_length-le}
+use lib.ListN.{drop_of_length-le}
 use lib.Seq.{drop-cons}
+use borrow.Author.Tests.{eqb-false}
+use Rattle.num.proofs.Lists.{part_at}
 use Rattle.num.proofs.Regions.{region_at}
-use Rattle.construction.specs.Construct.{Placement, bucket_count, size_of, order_of, place_singles}
-use Rattle.construction.specs.Scratch.{placement_in}
-use Rattle.construction.specs.Internal.{Room, Arranged, free_count, singles_in, place_defs}
-use Rattle.singles.specs.Internal.{Bucket, HasFree, Walked, Singled}
+use Rattle.construction.specs.Construct.{Placement, bucket_count, members_of, size_of, order_of, is_free, free_from, least_free, place_single, place_singles}
+use Rattle.construction.specs.Scratch.{order_at, pilots_at}
+use Rattle.construction.specs.Internal.{Room, Arranged, place_defs}
+use Rattle.construction.proofs.Buckets.{member_below}
+use Rattle.construction.proofs.Free.{store_taken, store_other, before_least}
 use Rattle.construction.proofs.Order.{order_length, order_below}
-use Rattle.construction.proofs.Singles.{Left, single_free, single_left}
-use Rattle.singles.proofs.Stores.{slots_room, slots_length, pilots_length}
+use Rattle.construction.proofs.Scratch.{arranged_first}
+use Rattle.construction.proofs.Singles.{Left, single_is, single_not, single_free, single_left}
+use Rattle.singles.proofs.Free.{free_behind}
 
 -- the first k buckets of the order are placed
-pub record Running (hs s₀ : List ℕ) (k from : ℕ) (s : List ℕ) : Type 0 where
-  pub turns : k ≤ bucket_count hs
-  pub room : Room hs s
-  pub arranged : Arranged hs s
-  pub walked : Walked hs from s
-  pub size : length s ≡ length s₀
-  pub left : Left hs (placement_in (length hs) s) (drop k (order_of hs))
-  pub same : place_singles hs (placement_in (length hs) s) (drop k (order_of hs)) ≡ place_singles hs (placement_in (length hs) s₀) (order_of hs)
+pub record Running (hs : List ℕ) (t₀ : Placement) (k from : ℕ) (pilots slots : List ℕ) : Type 0 where
+  pub inside : from ≤ length hs
+  pub taken : (i : ℕ) → i < from → is_free slots i ≡ false
+  pub left : Left hs (record { pilots = pilots; slots = slots }) (drop k (order_of hs))
+  pub same : place_singles hs (record { pilots = pilots; slots = slots }) (drop k (order_of hs)) ≡ place_singles hs t₀ (order_of hs)
 
-pub running_start : {hs s : List ℕ} → Room hs s → Arranged hs s → free_count (placement_in (length hs) s).slots ≡ singles_in hs (order_of hs) → Running hs s 0 0 s
-running_start {hs} {s} r a e =
-    record {
-      turns = omega arith;
-      room = r;
-      arranged = a;
-      walked = record { inside = omega arith; taken = λ i h. absurd (omega arith) };
-      size = refl;
-      left = record { shape = record { pilots_length = pilots_length r; slots_length = slots_length (length hs) s (slots_room r) }; free = e };
-      same = refl;
-    }
+-- ---- what the code reads, of what stands before the pilots
 
-pub running_done : {hs s₀ s : List ℕ} {k from : ℕ} → Running hs s₀ k from s → k ≡ bucket_count hs → placement_in (length hs) s ≡ place_singles hs (placement_in (length hs) s₀) (order_of hs)
-unfolding place_singles
-running_done {hs} {s₀} {s} {k} run e =
-    sym (ap (place_singles hs (placement_in (length hs) s)) (drop_of_length-le (order_of hs) {i = k} (omega (arith, order_length hs)))) ∙ run.same
+module _ {hs s front : List ℕ} (room : Room hs s) (st : Arranged hs s) {p : ℕ} (ep : p ≡ pilots_at (length hs)) (ef : front ≡ take p s) where
+  pub front_arranged : Arranged hs front
+  front_arranged = rw (ef, ep) (arranged_first hs s st)
 
-module _ {hs s₀ s : List ℕ} {k from : ℕ} (run : Running hs s₀ k from s) (h : k < bucket_count hs) (q x : ℕ) (eq : q ≡ (length hs + 1) / 2 + 5 + 2 * length hs + k) (ex : x ≡ get_or s q 0) where
-  x_is : x ≡ get_or (order_of hs) k 0
-  unfolding place_defs
-  x_is = ex ∙ region_at run.arranged.order q k eq (omega arith) h
+  module _ {order k : ℕ} (eo : order ≡ order_at (length hs)) (h : k < bucket_count hs) where
+    pub bucket_is : get_or (take (length front - order) (drop order front)) k 0 ≡ get_or (order_of hs) k 0
+    unfolding place_defs
+    bucket_is =
+        let r = room.room in
+        let n : length front ≡ p = ap length ef ∙ length-take-le p s (omega arith) in
+        part_at front order (length front - order) k 0 (omega arith) ∙ region_at front_arranged.order (order + k) k (omega arith) (omega arith) h
 
-  pub turn_bucket : Bucket hs x s
-  turn_bucket = record { room = run.room; arranged = run.arranged; known = rw x_is (order_below hs k h) }
+    pub bucket_below : get_or (take (length front - order) (drop order front)) k 0 < bucket_count hs
+    bucket_below = rw bucket_is (order_below hs k h)
 
-  left_is : drop k (order_of hs) ≡ x ∷ drop (suc k) (order_of hs)
-  left_is = drop-cons (order_of hs) k 0 (omega (arith, order_length hs)) ∙ ap (λ (y : ℕ). y ∷ drop (suc k) (order_of hs)) (sym x_is)
+-- ---- one bucket after another
 
-  left_now : Left hs (placement_in (length hs) s) (x ∷ drop (suc k) (order_of hs))
-  left_now = subst (Left hs (placement_in (length hs) s)) left_is run.left
+module _ {hs : List ℕ} {t₀ : Placement} {k from : ℕ} {pilots slots : List ℕ} (run : Running hs t₀ k from pilots slots) where
+  abbrev now : Placement
+  now = record { pilots = pilots; slots = slots }
 
-  pub turn_free : size_of hs x ≡ 1 → HasFree (length hs) s
-  turn_free e =
-      let f = single_free hs (placement_in (length hs) s) x (drop (suc k) (order_of hs)) left_now e in
-      record { inside = omega (arith, f.0, left_now.shape.slots_length); free = f.1 }
-
-  pub turn_done : {r : ℕ} {s₂ : List ℕ} → Singled hs x r s s₂ → Running hs s₀ (k + 1) r s₂
+  pub running_done : bucket_count hs ≤ k → now ≡ place_singles hs t₀ (order_of hs)
   unfolding place_singles
-  turn_done {r} {s₂} d =
-      rw (add-one k)
-      (record {
-        turns = h;
-        room = record { some_key = run.room.some_key; few = run.room.few; room = omega (arith, d.size, run.room.room) };
-        arranged = d.arranged;
-        walked = d.walked;
-        size = d.size ∙ run.size;
-        left = subst (λ (t : Placement). Left hs t (drop (suc k) (order_of hs))) (sym d.placed) (single_left hs (placement_in (length hs) s) x (drop (suc k) (order_of hs)) left_now);
-        same = ap (λ (t : Placement). place_singles hs t (drop (suc k) (order_of hs))) d.placed ∙ sym (ap (place_singles hs (placement_in (length hs) s)) left_is) ∙ run.same;
-      })
+  running_done e = sym (ap (place_singles hs now) (drop_of_length-le (order_of hs) {i = k} (omega (arith, order_length hs)))) ∙ run.same
+
+  module _ (h : k < bucket_count hs) (x : ℕ) (ex : x ≡ get_or (order_of hs) k 0) where
+    left_is : drop k (order_of hs) ≡ x ∷ drop (k + 1) (order_of hs)
+    left_is =
+        drop-cons (order_of hs) k 0 (omega (arith, order_length hs))
+        ∙ ap (λ (y : ℕ). y ∷ drop (suc k) (order_of hs)) (sym ex)
+        ∙ ap (λ (j : ℕ). x ∷ drop j (order_of hs)) (sym (add-one k))
+
+    left_now : Left hs now (x ∷ drop (k + 1) (order_of hs))
+    left_now = subst (Left hs now) left_is run.left
+
+    same_next : place_singles hs (place_single hs now x) (drop (k + 1) (order_of hs)) ≡ place_singles hs t₀ (order_of hs)
+    unfolding place_singles
+    same_next = sym (ap (place_singles hs now) left_is) ∙ run.same
+
+    -- a bucket that has another number of keys
+    pub running_passed : (size_of hs x ≡ 1 → ⊥) → Running hs t₀ (k + 1) from pilots slots
+    running_passed n =
+        let e = single_not hs now x n in
+        record {
+          inside = run.inside;
+          taken = run.taken;
+          left = subst (λ (t : Placement). Left hs t (drop (k + 1) (order_of hs))) e (single_left hs now x (drop (k + 1) (order_of hs)) left_now);
+          same = ap (λ (t : Placement). place_singles hs t (drop (k + 1) (order_of hs))) (sym e) ∙ same_next;
+        }
+
+    -- a bucket that has one
+    module _ (one : size_of hs x ≡ 1) (free : ℕ) (ef : free ≡ free_from (length slots - from) slots from) where
+      known : (least_free slots < length slots) × (is_free slots (least_free slots) ≡ true)
+      known = single_free hs now x (drop (k + 1) (order_of hs)) left_now one
+
+      least : free ≡ least_free slots
+      least = ef ∙ free_behind slots from (omega (arith, run.inside, run.left.shape.slots_length)) run.taken
+
+      pub free_inside : free < length hs
+      free_inside = let q = known.0 in omega (arith, least, run.left.shape.slots_length)
+
+      -- the slots below the next place are taken
+      taken_next : (v : ℕ) → v < length hs → (i : ℕ) → i < free + 1 → is_free (set slots free v) i ≡ false
+      taken_next v key i l = go (eqb i free) refl
+        where
+          go : (t : Bool) → eqb i free ≡ t → is_free (set slots free v) i ≡ false
+          go true e =
+              let n = run.left.shape.slots_length in
+              ap (is_free (set slots free v)) (eqb-true i free e) ∙ store_taken slots free v (omega (arith, free_inside)) (omega arith)
+          go false e =
+              let d = eqb-false i free e in
+              store_other slots free v i d ∙ before_least slots i known.0 (omega (arith, least))
+
+      pub running_placed : (v : ℕ) → v ≡ get_or (members_of hs x) 0 0 → Running hs t₀ (k + 1) (free + 1) (set pilots x (2 ^ 31 + free)) (set slots free v)
+      running_placed v ev =
+          let e : place_single hs now x ≡ record { pilots = set pilots x (2 ^ 31 + free); slots = set slots free v } =
+          single_is hs now x one ∙ ap₂ (λ (a w : ℕ). record { pilots = set pilots x (2 ^ 31 + a); slots = set slots a w }) (sym least) (sym ev) in
+          record {
+            inside = omega (arith, free_inside);
+            taken = taken_next v (omega (arith, ev, member_below hs x 0 (omega arith)));
+            left = subst (λ (t : Placement). Left hs t (drop (k + 1) (order_of hs))) e (single_left hs now x (drop (k + 1) (order_of hs)) left_now);
+            same = ap (λ (t : Placement). place_singles hs t (drop (k + 1) (order_of hs))) (sym e) ∙ same_next;
+          }

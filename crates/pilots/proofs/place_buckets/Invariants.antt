@@ -1,12 +1,13 @@
-use mathlib.Core.Path.{◌≡◌}
-use Prim.Native.Nat.{◌+◌, ◌-◌, ◌≤◌}
-use lib.ListN.{length}
-use Rattle.construction.specs.Construct.{bucket_count}
-use Rattle.pilots.specs.Internal.{Placing}
+use Rattle.std.proofs.Common.{◌≡◌, length}
+use Rattle.construction.specs.Scratch.{placement_in}
+use Rattle.pilots.proofs.Placing.{Placing}
 use Rattle.pilots.proofs.place_buckets.Given as goal
 
-abbrev pub invariant-loop-i : goal.invariant-loop-i
-invariant-loop-i l = (l.buckets ≡ bucket_count l.hashes) × (l.order + l.buckets ≤ length l.scratch) × Placing l.hashes l.i l.initial.scratch l.scratch
-
-abbrev pub decreases-loop-i : goal.decreases-loop-i
-decreases-loop-i l = l.buckets - l.i
+-- the first buckets of the order are placed
+abbrev pub invariant-loop-x : goal.invariant-loop-x
+invariant-loop-x l =
+    record {
+      candidates_length : length l.candidates ≡ length l.initial.candidates;
+      indices_length : length l.indices ≡ length l.initial.indices;
+      placing : Placing l.hashes (placement_in (length l.hashes) l.fn.scratch) l.x-index l.pilots l.slots;
+    }

@@ -1,9 +1,13 @@
-use Prim.Native.Nat.{◌-◌, ◌≤◌}
-use Rattle.pilots.specs.Internal.{Trying}
+use Rattle.std.proofs.Common.{◌≡◌, length}
+use Rattle.construction.specs.Construct.{positions_of}
+use Rattle.pilots.proofs.Candidates.{Tried}
 use Rattle.pilots.proofs.try_pilot.Given as goal
 
+-- the slots of the first members are candidates
 abbrev pub invariant-loop-j : goal.invariant-loop-j
-invariant-loop-j l = (l.j ≤ l.size) × Trying l.hashes l.first l.size l.pilot l.j l.initial.scratch l.scratch
-
-abbrev pub decreases-loop-j : goal.decreases-loop-j
-decreases-loop-j l = l.size - l.j
+invariant-loop-j l =
+    record {
+      candidates_length : length l.candidates ≡ length l.fn.candidates;
+      indices_length : length l.indices ≡ length l.fn.indices;
+      tried : Tried l.slots (positions_of l.hashes l.members l.pilot) l.j l.candidates l.indices;
+    }

@@ -1,18 +1,14 @@
-use Prim.Native.Nat.{◌+◌}
-use native.Mathlib.Omega.{arith}
-use Rattle.singles.proofs.Stores.{scan_on, scan_done}
+use Rattle.std.proofs.Common.{◌≡◌, sym, ◌∙◌, arith, length}
+use Rattle.singles.proofs.Free.{free_here, free_later, free_end}
 use Rattle.singles.proofs.next_free.Goals as goal
 
-pub overflow_cast-scratch : goal.overflow_cast-scratch
-overflow_cast-scratch c = omega (arith, c.type_inv.scratch (c.args.slots + c.loop-at.at))
+pub returns-then-slots-at-clause-first : goal.returns-then-slots-at-clause-first
+returns-then-slots-at-clause-first c = sym (free_here _ _ (omega arith) c.if-slots-at.true) ∙ c.loop-at.invariant
 
 pub loop-at-preserved : goal.loop-at-preserved
-loop-at-preserved c =
-    let l = c.loop-at in
-    scan_on _ _ (c.args.slots + l.at) l.at (omega arith) (omega arith) c.requires.has_free.0 l.invariant c.loop-at-test.true
+loop-at-preserved c = sym (free_later _ _ (omega arith) c.if-slots-at.false) ∙ c.loop-at.invariant
 
-pub returns : goal.returns
-returns c =
-    let l = c.loop-at in
-    let e = scan_done _ _ (c.args.slots + l.at) l.at (omega arith) (omega arith) c.requires.has_free.0 l.invariant c.loop-at-test.false in
-    (e, omega (arith, c.requires.has_free.0.inside))
+pub returns-clause-first : goal.returns-clause-first
+returns-clause-first c =
+    let end : length c.args.slots.now ≡ c.loop-at.at = omega arith in
+    end ∙ sym (free_end _ _ (omega arith)) ∙ c.loop-at.invariant

@@ -1,63 +1,50 @@
-use mathlib.Core.Path.{refl}
-use Prim.Native.Nat.{◌+◌, ◌*◌, ◌/◌}
-use native.Mathlib.Omega.{arith}
-use lib.ListN.{length}
-use borrow.Author.Rules.{rules}
+use Rattle.std.proofs.Common.{ℕ, ◌<◌, List, length, get_or, sym, ap, ◌∙◌, arith}
+use Rattle.construction.specs.Construct.{bucket_count, size_of}
 use Rattle.construction.specs.Internal.{place_defs}
-use Rattle.singles.proofs.Loop.{running_start, running_done, turn_bucket, turn_free, turn_done}
+use Rattle.construction.proofs.Scratch.{placement_parts}
+use Rattle.singles.proofs.Loop.{front_arranged, bucket_is, bucket_below, running_done, running_passed, running_placed, free_inside}
+use Rattle.singles.proofs.place_singles.Goals.{then-members-eq1, else-members-eq1}
 use Rattle.singles.proofs.place_singles.Goals as goal
 
-pub overflow_add-buckets : goal.overflow_add-buckets
+pub members_of-members-requires-clause-sorted : goal.members_of-members-requires-clause-sorted
+members_of-members-requires-clause-sorted c =
+    (front_arranged c.requires.room c.requires.arranged c.of-at.ensures.pilots c.split_at_mut-arranged.ensures.front).members
+
+pub members_of-members-requires-clause-bucket : goal.members_of-members-requires-clause-bucket
 unfolding place_defs
-overflow_add-buckets c = search rules
+members_of-members-requires-clause-bucket c =
+    bucket_below c.requires.room c.requires.arranged c.of-at.ensures.pilots c.split_at_mut-arranged.ensures.front c.of-at.ensures.order (omega arith)
 
-pub overflow_add-order : goal.overflow_add-order
+pub bounds-slots-free : goal.bounds-slots-free
+unfolding place_defs size_of
+bounds-slots-free c =
+    let h : c.loop-x.x-index < bucket_count c.args.hashes.now = omega arith in
+    let e = bucket_is c.requires.room c.requires.arranged c.of-at.ensures.pilots c.split_at_mut-arranged.ensures.front c.of-at.ensures.order h in
+    omega (arith, free_inside c.loop-x.invariant h _ e (sym (ap length c.members_of-members.ensures) ∙ c.if-members-eq1.true) _ c.next_free-free.ensures.first, c.loop-x.invariant.left.shape.slots_length)
+
+pub bounds-pilots-x : goal.bounds-pilots-x
 unfolding place_defs
-overflow_add-order c = search rules
+bounds-pilots-x c =
+    let h : c.loop-x.x-index < bucket_count c.args.hashes.now = omega arith in
+    let below = bucket_below c.requires.room c.requires.arranged c.of-at.ensures.pilots c.split_at_mut-arranged.ensures.front c.of-at.ensures.order h in
+    omega (arith, c.loop-x.invariant.left.shape.pilots_length)
 
-pub overflow_mul-order : goal.overflow_mul-order
+pub loop-x-preserved : goal.loop-x-preserved
+unfolding place_defs size_of
+loop-x-preserved c =
+    let run = c.loop-x.invariant in
+    let h : c.loop-x.x-index < bucket_count c.args.hashes.now = omega arith in
+    let e = bucket_is c.requires.room c.requires.arranged c.of-at.ensures.pilots c.split_at_mut-arranged.ensures.front c.of-at.ensures.order h in
+    elim c.if-members-eq1.branch [
+      | then-members-eq1 w ↦ rw (w.pilots-is, w.slots-is, w.from-is)
+          (running_placed run h _ e (sym (ap length c.members_of-members.ensures) ∙ w.if-members-eq1.true) _ w.next_free-free.ensures.first _ (ap (λ (l : List ℕ). get_or l 0 0) c.members_of-members.ensures))
+      | else-members-eq1 w ↦ rw (w.pilots-is, w.slots-is, w.from-is)
+          (running_passed run h _ e (λ one. w.if-members-eq1.false (ap length c.members_of-members.ensures ∙ one)))
+    ]
+
+pub returns-clause-scratch_after : goal.returns-clause-scratch_after
 unfolding place_defs
-overflow_mul-order c = search rules
-
-pub overflow_add-order-2 : goal.overflow_add-order-2
-unfolding place_defs
-overflow_add-order-2 c = search rules
-
-pub loop-k-init : goal.loop-k-init
-loop-k-init c = running_start c.requires.room c.requires.arranged c.requires.scratch_value
-
-pub overflow_add-x : goal.overflow_add-x
-unfolding place_defs
-overflow_add-x c = search rules
-
-pub offset_bounds-scratch-order : goal.offset_bounds-scratch-order
-unfolding place_defs
-offset_bounds-scratch-order c = search rules
-
-pub bounds-scratch-order : goal.bounds-scratch-order
-unfolding place_defs
-bounds-scratch-order c = search rules
-
-pub overflow_cast-x : goal.overflow_cast-x
-overflow_cast-x c = omega (arith, c.type_inv.scratch ((length c.args.hashes.now + 1) / 2 + 5 + 2 * length c.args.hashes.now + c.loop-k.k))
-
-pub place_single-from-requires : goal.place_single-from-requires
-unfolding place_defs
-place_single-from-requires c =
-    let l = c.loop-k in
-    let h = c.loop-k-test.true in
-    record { bucket = turn_bucket l.invariant h _ _ refl refl; walked = l.invariant.walked; has_free = turn_free l.invariant h _ _ refl refl }
-
-pub overflow_add-k : goal.overflow_add-k
-unfolding place_defs
-overflow_add-k c = search rules
-
-pub loop-k-preserved : goal.loop-k-preserved
-unfolding place_defs
-loop-k-preserved c =
-    let l = c.loop-k in
-    turn_done l.invariant c.loop-k-test.true _ _ refl refl c.place_single-from.ensures
-
-pub returns : goal.returns
-unfolding place_defs
-returns c = let l = c.loop-k in record { scratch_len_unchanged = l.invariant.size; scratch_after = running_done l.invariant (omega arith) }
+returns-clause-scratch_after c =
+    let shape = c.loop-x.invariant.left.shape in
+    placement_parts (length c.args.hashes.now) _ _ _ _ (omega arith) shape.pilots_length shape.slots_length
+    ∙ running_done c.loop-x.invariant (omega arith)

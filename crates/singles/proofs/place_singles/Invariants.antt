@@ -1,11 +1,8 @@
-use Prim.Native.Nat.{◌-◌}
+use Rattle.construction.specs.Scratch.{placement_in}
+use Rattle.std.proofs.Common.{length}
 use Rattle.singles.proofs.Loop.{Running}
 use Rattle.singles.proofs.place_singles.Given as goal
 
--- The loop's invariant: the first k buckets of the order are placed.
--- Assumes nothing.
-abbrev pub invariant-loop-k : goal.invariant-loop-k
-invariant-loop-k l = Running l.hashes l.initial.scratch l.k l.from l.scratch
-
-abbrev pub decreases-loop-k : goal.decreases-loop-k
-decreases-loop-k l = l.buckets - l.k
+-- the first buckets of the order are placed
+abbrev pub invariant-loop-x : goal.invariant-loop-x
+invariant-loop-x l = Running l.hashes (placement_in (length l.hashes) l.fn.scratch) l.x-index l.from l.pilots l.slots
