@@ -3,11 +3,10 @@
 use mathlib.Core.Path.{◌≡◌, refl, ap, ◌∙◌}
 use mathlib.Core.List.{List}
 use Prim.Native.Nat.{ℕ}
-use native.Mathlib.Omega.{arith}
-use Rattle.num.specs.Answer.{Answer, given, refused}
+use Rattle.std.specs.Prelude.{Result, Ok, Err}
+use Rattle.refusal.specs.declared.Refusal.{Refusal}
+use Rattle.refusal.proofs.Asked.{refused_ok}
 use Rattle.block.specs.declared.BlockMeta.{BlockMeta}
-use Rattle.block.specs.declared.Verified.{Verified}
-use Rattle.block.specs.declared.Verified.TheVariants.{Sound, Unsound}
 use Rattle.block.specs.Verify.{verify_of, SoundBlock}
 use Rattle.block.specs.Walk.{WalkEnd, at_end, stopped, records_of}
 use Rattle.block.proofs.Sound.{sound_exactly}
@@ -20,33 +19,33 @@ pub record WholeBlock (raw : List ℕ) : Type 0 where
   pub sound : (m : BlockMeta) × SoundBlock raw m
   pub walked : (records_of raw).ended ≡ at_end
 
-ended_given : (how : WalkEnd) (a : Answer Progress) (q : Progress) → walk_ended how a ≡ given q → (how ≡ at_end) × (a ≡ given q)
+ended_given : (how : WalkEnd) (a : Result Progress Refusal) (q : Progress) → walk_ended how a ≡ Ok q → (how ≡ at_end) × (a ≡ Ok q)
 unfolding walk_ended
-ended_given how (refused n) q e = absurd (let z : ◌≡◌ {A = ℕ} 0 1 = cc in omega arith)
-ended_given at_end (given o) q e = (refl, e)
-ended_given stopped (given o) q e = absurd (let z : ◌≡◌ {A = ℕ} 0 1 = cc in omega arith)
+ended_given how (Err n) q e = refused_ok e
+ended_given at_end (Ok o) q e = (refl, e)
+ended_given stopped (Ok o) q e = refused_ok e
 
 module _ (t : Inputs) (offset len : ℕ) (p q : Progress) where
   raw : List ℕ
   raw = block_bytes t.backing offset len
 
-  passed_for : (v : Verified) → verify_of raw ≡ v → block_for t offset p raw v ≡ given q
-      → WholeBlock raw × (entries_from t p (block_entries t.backing offset len) ≡ given q)
+  passed_for : (v : Result BlockMeta Refusal) → verify_of raw ≡ v → block_for t offset p raw v ≡ Ok q
+      → WholeBlock raw × (entries_from t p (block_entries t.backing offset len) ≡ Ok q)
   unfolding block_for records_asked block_entries in_data placed raw
-  passed_for Unsound e h = absurd (let z : ◌≡◌ {A = ℕ} 0 1 = cc in omega arith)
-  passed_for (Sound m) e h =
+  passed_for (Err n) e h = refused_ok h
+  passed_for (Ok m) e h =
       let w = ended_given (records_of raw).ended _ q h in
       (record { sound = (m, (sound_exactly raw m).0 e); walked = w.0 }, w.1)
 
   -- a block that passes is whole, and its records pass
-  pub block_passed : block_asked t offset len p ≡ given q
-      → WholeBlock (block_bytes t.backing offset len) × (entries_from t p (block_entries t.backing offset len) ≡ given q)
+  pub block_passed : block_asked t offset len p ≡ Ok q
+      → WholeBlock (block_bytes t.backing offset len) × (entries_from t p (block_entries t.backing offset len) ≡ Ok q)
   unfolding block_asked raw
   block_passed h = passed_for (verify_of raw) refl h
 
   -- and conversely
-  pub passed_block : WholeBlock (block_bytes t.backing offset len) → entries_from t p (block_entries t.backing offset len) ≡ given q
-      → block_asked t offset len p ≡ given q
+  pub passed_block : WholeBlock (block_bytes t.backing offset len) → entries_from t p (block_entries t.backing offset len) ≡ Ok q
+      → block_asked t offset len p ≡ Ok q
   unfolding block_asked block_for records_asked walk_ended block_entries in_data placed raw
   passed_block w e =
       let m = w.sound.0 in

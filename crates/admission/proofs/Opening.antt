@@ -4,25 +4,22 @@ use mathlib.Core.Path.{◌≡◌, refl, ap, ◌∙◌, subst}
 use mathlib.Core.Bool.{true}
 use mathlib.Core.List.{List}
 use Prim.Native.Nat.{ℕ, ◌+◌, ◌*◌, ◌^◌, ◌<◌}
-use native.Mathlib.Omega.{arith}
 use lib.ListN.{length}
 use borrow.Author.Tests.{eqb-true, eq-eqb, leb-true, le-leb, lt-ltb, not-false}
 use Rattle.num.specs.Number.{le_at}
-use Rattle.num.proofs.Choice.{both_true, second_either, if_first, if_true}
+use Rattle.num.proofs.Choice.{both_true, second_either, if_true}
 use Rattle.num.proofs.Steps.{yes_each}
-use Rattle.sstable.specs.declared.Trailer.{Trailer}
-use Rattle.sstable.specs.declared.Trailer.TheVariants.{Intact, UnknownType, ChecksumMismatch}
-use Rattle.sstable.specs.Trailer.{trailer_of, trailer_number, SoundTrailer}
+use Rattle.refusal.proofs.Asked.{refused_ok, same_ok, asked}
+use Rattle.sstable.specs.Trailer.{trailer_of, SoundTrailer}
 use Rattle.sstable.proofs.TrailerLaws.{sound_trailer, trailer_asks}
 use Rattle.point.specs.Hash.{is_direct, direct_slot}
 use Rattle.encoding.specs.Encoding.{header_len}
 use Rattle.header.specs.declared.Opened.{Opened}
-use Rattle.header.specs.declared.HeaderRead.{HeaderRead}
-use Rattle.header.specs.declared.HeaderRead.TheVariants.{Accepted, Refused}
 use Rattle.header.specs.Facts.{Header}
 use Rattle.header.proofs.Headers.{header_facts, facts_header}
 use Rattle.arena.specs.declared.Cursor.{Cursor}
-use Rattle.num.specs.Answer.{Answer, given, refused}
+use Rattle.std.specs.Prelude.{Result, Ok, Err}
+use Rattle.refusal.specs.declared.Refusal.{Refusal}
 use Rattle.validate.specs.Walk.{Inputs}
 use Rattle.opening.specs.Open.{pilot_inside_of, pilots_inside, start_of, PairsEnd, pairs_from, ends_together, prefixes_counted, end_for, inputs_of, contents_of, contents_for, trailed_header, checked_header_of, open_of}
 use Rattle.opening.proofs.Pilots.{pilots_each, pilot_slot}
@@ -32,9 +29,6 @@ use Rattle.admission.specs.Blocks.{Covers, store_entries}
 use Rattle.admission.specs.Layout.{pilot_number}
 use Rattle.admission.specs.Admits.{PilotsInside, Admits, OpensExactly}
 use Rattle.admission.proofs.Pairs.{pairs_exactly}
-
-refused_accepted : {A : Type 0} (n : ℕ) (o : Opened) → Refused n ≡ Accepted o → A
-refused_accepted n o e = absurd (let z : ◌≡◌ {A = ℕ} 0 1 = cc in omega arith)
 
 -- question 10 of one pilot
 yes_pilot : (s : List ℕ) (o : Opened) (k : ℕ)
@@ -58,23 +52,23 @@ unfolding ends_together
 ends_data t at c e = eqb-true _ _ (both_true _ _ e).0
 
 -- pairs that end with questions 22 and 23 answered by yes
-record Finished (t : Inputs) (x : Answer PairsEnd) (p : Opened) : Type 0 where
+record Finished (t : Inputs) (x : Result PairsEnd Refusal) (p : Opened) : Type 0 where
   last : PairsEnd
-  through : x ≡ given last
+  through : x ≡ Ok last
   together : ends_together t last.at last.progress.cursor ≡ true
   counted : prefixes_counted t last.progress.cursor ≡ true
   same : t.opened ≡ p
 
-finished : (t : Inputs) (x : Answer PairsEnd) (p : Opened) → end_for t x ≡ Accepted p → Finished t x p
+finished : (t : Inputs) (x : Result PairsEnd Refusal) (p : Opened) → end_for t x ≡ Ok p → Finished t x p
 unfolding end_for
-finished t (refused n) p e = refused_accepted n p e
-finished t (given last) p e =
-    let e₁ = if_first _ _ (Refused 22) (Accepted p) (λ d. refused_accepted 22 p d) e in
-    let e₂ = if_first _ _ (Refused 23) (Accepted p) (λ d. refused_accepted 23 p d) e₁.1 in
-    record { last = last; through = refl; together = e₁.0; counted = e₂.0; same = cc e₂.1 }
+finished t (Err n) p e = refused_ok e
+finished t (Ok last) p e =
+    let e₁ = asked _ _ _ p e in
+    let e₂ = asked _ _ _ p e₁.1 in
+    record { last = last; through = refl; together = e₁.0; counted = e₂.0; same = same_ok e₂.1 }
 
 finish : (t : Inputs) (x : PairsEnd) → ends_together t x.at x.progress.cursor ≡ true → prefixes_counted t x.progress.cursor ≡ true
-    → end_for t (given x) ≡ Accepted t.opened
+    → end_for t (Ok x) ≡ Ok t.opened
 unfolding end_for
 finish t x e c = if_true _ _ _ e ∙ if_true _ _ _ c
 
@@ -84,17 +78,17 @@ pub record Contents (s «data» blocks : List ℕ) (scratch : ℕ) (o : Opened) 
   pub covers : Covers «data» blocks
   pub agrees : Agrees s «data» scratch o (store_entries «data» blocks)
 
-pub contents_asks : (s «data» blocks : List ℕ) (scratch : ℕ) (o p : Opened) → contents_of s «data» blocks scratch o ≡ Accepted p
+pub contents_asks : (s «data» blocks : List ℕ) (scratch : ℕ) (o p : Opened) → contents_of s «data» blocks scratch o ≡ Ok p
     → Contents s «data» blocks scratch o × (o ≡ p)
 unfolding contents_of inputs_of
 contents_asks s «data» blocks scratch o p e =
     let t = inputs_of s «data» scratch o in
-    let e₁ = if_first _ _ (Refused 10) (Accepted p) (λ d. refused_accepted 10 p d) e in
-    let e₂ = if_first _ _ (Refused 11) (Accepted p) (λ d. refused_accepted 11 p d) e₁.1 in
+    let e₁ = asked _ _ _ p e in
+    let e₂ = asked _ _ _ p e₁.1 in
     let f = finished t (pairs_from t blocks 0 (start_of o)) p e₂.1 in
     let q = f.last.progress in
     let d = ends_data t f.last.at q.cursor f.together in
-    let w = (pairs_exactly t blocks (start_of o) q).0 (f.through ∙ ap (λ (n : ℕ). given (record { at = n; progress = q })) d) in
+    let w = (pairs_exactly t blocks (start_of o) q).0 (f.through ∙ ap (λ (n : ℕ). Ok (record { at = n; progress = q })) d) in
     let g = (accepted_exactly s «data» scratch o (store_entries «data» blocks) f.last.at).0 (q, w.1, f.together, f.counted) in (
       record {
         pilots = pilots_named s o e₁.0;
@@ -105,7 +99,7 @@ contents_asks s «data» blocks scratch o p e =
     )
 
 pub asks_contents : (s «data» blocks : List ℕ) (scratch : ℕ) (o : Opened) → Contents s «data» blocks scratch o
-    → contents_of s «data» blocks scratch o ≡ Accepted o
+    → contents_of s «data» blocks scratch o ≡ Ok o
 unfolding contents_of pilots_inside inputs_of
 asks_contents s «data» blocks scratch o c =
     let t = inputs_of s «data» scratch o in
@@ -117,30 +111,29 @@ asks_contents s «data» blocks scratch o c =
     ∙ finish t (record { at = length «data»; progress = g.0 }) g.2 g.3
 
 -- questions 1 to 6, both ways
-pub checked_asks : (s : List ℕ) (o : Opened) → checked_header_of s ≡ Accepted o → SoundTrailer s × Header s o
-unfolding checked_header_of trailed_header trailer_number
+pub checked_asks : (s : List ℕ) (o : Opened) → checked_header_of s ≡ Ok o → SoundTrailer s × Header s o
+unfolding checked_header_of trailed_header
 checked_asks s o = go (trailer_of s) refl
   where
-    go : (r : Trailer) → trailer_of s ≡ r → trailed_header s r ≡ Accepted o → SoundTrailer s × Header s o
-    go UnknownType q e = refused_accepted 1 o e
-    go ChecksumMismatch q e = refused_accepted 2 o e
-    go Intact q e = (trailer_asks s q, header_facts s o e)
+    go : (r : Result (Unit {0}) Refusal) → trailer_of s ≡ r → trailed_header s r ≡ Ok o → SoundTrailer s × Header s o
+    go (Err n) q e = refused_ok e
+    go (Ok u) q e = (trailer_asks s q, header_facts s o e)
 
-pub asks_checked : (s : List ℕ) (o : Opened) → SoundTrailer s → Header s o → checked_header_of s ≡ Accepted o
+pub asks_checked : (s : List ℕ) (o : Opened) → SoundTrailer s → Header s o → checked_header_of s ≡ Ok o
 unfolding checked_header_of trailed_header
 asks_checked s o t h = ap (trailed_header s) (sound_trailer s t) ∙ facts_header s o h
 
-open_asks : (s «data» blocks : List ℕ) (scratch : ℕ) (o : Opened) (h : HeaderRead) → checked_header_of s ≡ h → contents_for s «data» blocks scratch h ≡ Accepted o
+open_asks : (s «data» blocks : List ℕ) (scratch : ℕ) (o : Opened) (h : Result Opened Refusal) → checked_header_of s ≡ h → contents_for s «data» blocks scratch h ≡ Ok o
     → Admits s «data» blocks scratch o
 unfolding contents_for
-open_asks s «data» blocks scratch o (Refused n) eh e = refused_accepted n o e
-open_asks s «data» blocks scratch o (Accepted p) eh e =
+open_asks s «data» blocks scratch o (Err n) eh e = refused_ok e
+open_asks s «data» blocks scratch o (Ok p) eh e =
     let c = contents_asks s «data» blocks scratch p o e in
     let h = checked_asks s p eh in
     subst (Admits s «data» blocks scratch) c.1
     (record { trailer = h.0; header = h.1; pilots = c.0.pilots; covers = c.0.covers; agrees = c.0.agrees })
 
-asks_open : (s «data» blocks : List ℕ) (scratch : ℕ) (o : Opened) → Admits s «data» blocks scratch o → open_of s «data» blocks scratch ≡ Accepted o
+asks_open : (s «data» blocks : List ℕ) (scratch : ℕ) (o : Opened) → Admits s «data» blocks scratch o → open_of s «data» blocks scratch ≡ Ok o
 unfolding open_of contents_for
 asks_open s «data» blocks scratch o a =
     ap (contents_for s «data» blocks scratch) (asks_checked s o a.trailer a.header)

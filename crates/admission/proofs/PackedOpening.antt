@@ -9,18 +9,18 @@ use borrow.Author.Tests.{ltb-true, lt-ltb, leb-true, le-leb, lt-leb}
 use lib.Dec.{leb}
 use lib.ListN.{length, take, drop}
 use Rattle.num.specs.Number.{le_at}
-use Rattle.num.proofs.Choice.{if_first, if_true, if_false}
+use Rattle.refusal.proofs.Asked.{refused_ok, same_ok, asked}
+use Rattle.num.proofs.Choice.{if_true, if_false}
 use Rattle.num.proofs.Steps.{each_yes, yes_each}
 use Rattle.point.specs.Hash.{is_direct, direct_slot}
 use Rattle.header.specs.declared.Opened.{Opened}
-use Rattle.header.specs.declared.HeaderRead.{HeaderRead}
-use Rattle.header.specs.declared.HeaderRead.TheVariants.{Accepted, Refused}
 use Rattle.header.specs.Header.{packed_record}
 use Rattle.header.specs.Facts.{Header, from_plain}
 use Rattle.header.proofs.Bounds.{arena_end}
 use Rattle.header.proofs.Questions.{packed_yes, yes_packed}
 use Rattle.opening.specs.Open.{contents_of, checked_header_of}
-use Rattle.num.specs.Answer.{refused}
+use Rattle.std.specs.Prelude.{Result, Ok, Err}
+use Rattle.refusal.specs.declared.Refusal.{Refusal}
 use Rattle.packing.specs.Packing.{PackedForm, packed_as, pilot_packs, pilots_pack, packed_for, pack_of, pack_for, open_packed_of}
 use Rattle.packed.specs.Packed.{pilot_at, pack_pilot, packed_bytes}
 use Rattle.packed.proofs.Lengths.{length_packed}
@@ -30,9 +30,6 @@ use Rattle.agreement.proofs.Same.{end_is}
 use Rattle.admission.specs.Layout.{pilot_number, packed_arena, packed_length, PackedLayout}
 use Rattle.admission.specs.Admits.{PilotsPack, AdmitsPacked, PackedFrom, PacksExactly, PacksLaidOut}
 use Rattle.admission.proofs.Opening.{contents_asks, asks_contents, checked_asks, asks_checked}
-
-refused_packed : {A : Type 0} (n : ℕ) (p : Opened) (bytes : List ℕ) → refused n ≡ packed_as p bytes → A
-refused_packed n p bytes e = absurd (let z : ◌≡◌ {A = ℕ} 0 1 = cc in omega arith)
 
 -- question 8, both ways
 pilots_asked : (s : List ℕ) (o : Opened) → pilots_pack s o ≡ true → PilotsPack s o
@@ -54,21 +51,21 @@ unfolding packed_length packed_arena
 packed_size_lem s o h = let e = end_is s o in omega (arith, length_packed s o h)
 
 module _ (s «data» blocks : List ℕ) (scratch room : ℕ) where
-  packed_asks : (o p : Opened) (bytes : List ℕ) (r : HeaderRead) → contents_of s «data» blocks scratch o ≡ r → packed_for s o r ≡ packed_as p bytes
-      → (contents_of s «data» blocks scratch o ≡ Accepted o) × (p ≡ packed_record o) × (bytes ≡ packed_bytes s o)
+  packed_asks : (o p : Opened) (bytes : List ℕ) (r : Result Opened Refusal) → contents_of s «data» blocks scratch o ≡ r → packed_for s o r ≡ packed_as p bytes
+      → (contents_of s «data» blocks scratch o ≡ Ok o) × (p ≡ packed_record o) × (bytes ≡ packed_bytes s o)
   unfolding packed_for
-  packed_asks o p bytes (Refused n) q e = refused_packed n p bytes e
-  packed_asks o p bytes (Accepted x) q e =
+  packed_asks o p bytes (Err n) q e = refused_ok e
+  packed_asks o p bytes (Ok x) q e =
       let c = contents_asks s «data» blocks scratch o x q in
-      let z : ◌≡◌ {A = PackedForm} (record { opened = p; bytes = bytes }) (record { opened = packed_record o; bytes = packed_bytes s o }) = cc in
-      (q ∙ ap (λ (y : Opened). Accepted y) (sym c.1), ap (λ (x : PackedForm). x.opened) z, ap (λ (x : PackedForm). x.bytes) z)
+      let z : ◌≡◌ {A = PackedForm} (record { opened = p; bytes = bytes }) (record { opened = packed_record o; bytes = packed_bytes s o }) = same_ok (sym e) in
+      (q ∙ ap (λ (y : Opened). Ok y) (sym c.1), ap (λ (x : PackedForm). x.opened) z, ap (λ (x : PackedForm). x.bytes) z)
 
-  pack_asks : (o p : Opened) (bytes : List ℕ) → checked_header_of s ≡ Accepted o → pack_of s «data» blocks scratch room o ≡ packed_as p bytes → PackedFrom s «data» blocks scratch room p bytes
+  pack_asks : (o p : Opened) (bytes : List ℕ) → checked_header_of s ≡ Ok o → pack_of s «data» blocks scratch room o ≡ packed_as p bytes → PackedFrom s «data» blocks scratch room p bytes
   unfolding pack_of
   pack_asks o p bytes h e =
-      let e₁ = if_first _ _ (refused 7) (packed_as p bytes) (λ d. refused_packed 7 p bytes d) e in
-      let e₂ = if_first _ _ (refused 8) (packed_as p bytes) (λ d. refused_packed 8 p bytes d) e₁.1 in
-      let e₃ = if_first _ _ (refused 9) (packed_as p bytes) (λ d. refused_packed 9 p bytes d) e₂.1 in
+      let e₁ = asked _ _ _ _ e in
+      let e₂ = asked _ _ _ _ e₁.1 in
+      let e₃ = asked _ _ _ _ e₂.1 in
       let w = packed_asks o p bytes (contents_of s «data» blocks scratch o) refl e₃.1 in
       let c = (contents_asks s «data» blocks scratch o o w.0).0 in
       let k = checked_asks s o h in
@@ -86,10 +83,10 @@ module _ (s «data» blocks : List ℕ) (scratch room : ℕ) where
         same_bytes = w.2;
       }
 
-  header_asks : (p : Opened) (bytes : List ℕ) (r : HeaderRead) → checked_header_of s ≡ r → pack_for s «data» blocks scratch room r ≡ packed_as p bytes → PackedFrom s «data» blocks scratch room p bytes
+  header_asks : (p : Opened) (bytes : List ℕ) (r : Result Opened Refusal) → checked_header_of s ≡ r → pack_for s «data» blocks scratch room r ≡ packed_as p bytes → PackedFrom s «data» blocks scratch room p bytes
   unfolding pack_for
-  header_asks p bytes (Refused n) q e = refused_packed n p bytes e
-  header_asks p bytes (Accepted o) q e = pack_asks o p bytes q e
+  header_asks p bytes (Err n) q e = refused_ok e
+  header_asks p bytes (Ok o) q e = pack_asks o p bytes q e
 
   asks_packed : (o : Opened) → AdmitsPacked s «data» blocks scratch room o → open_packed_of s «data» blocks scratch room ≡ packed_as (packed_record o) (packed_bytes s o)
   unfolding open_packed_of pack_for pack_of packed_for

@@ -1,8 +1,7 @@
 -- What the openings accept, question by question, in plain terms (document 01, "Opening, question by question").
-use Rattle.std.specs.Prelude.{◌≡◌, ◌↔◌, true, List, ℕ, ◌%◌, ◌^◌, ◌<◌, ◌≤◌}
+use Rattle.std.specs.Prelude.{◌≡◌, ◌↔◌, true, List, ℕ, ◌%◌, ◌^◌, ◌<◌, ◌≤◌, Ok}
 use Rattle.sstable.specs.Trailer.{SoundTrailer}
 use Rattle.header.specs.declared.Opened.{Opened}
-use Rattle.header.specs.declared.HeaderRead.TheVariants.{Accepted}
 use Rattle.header.specs.Header.{packed_record}
 use Rattle.header.specs.Facts.{Header}
 use Rattle.opening.specs.Open.{open_of}
@@ -55,7 +54,7 @@ pub record PackedFrom (s «data» blocks : List ℕ) (scratch room : ℕ) (p : O
 
 -- promise P2: a plain opening accepts exactly what is admitted, and then gives the record that the header says
 unfoldable pub OpensExactly : Type 0
-OpensExactly = (s «data» blocks : List ℕ) (scratch : ℕ) (o : Opened) → (open_of s «data» blocks scratch ≡ Accepted o) ↔ Admits s «data» blocks scratch o
+OpensExactly = (s «data» blocks : List ℕ) (scratch : ℕ) (o : Opened) → (open_of s «data» blocks scratch ≡ Ok o) ↔ Admits s «data» blocks scratch o
 
 -- promise P2 of the packed form: a packed opening accepts exactly what is admitted packed, and then gives the packed record and bytes
 unfoldable pub PacksExactly : Type 0

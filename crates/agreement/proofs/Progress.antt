@@ -10,14 +10,14 @@ use lib.Dec.{eqb, leb}
 use lib.ListN.{length}
 use borrow.Author.Tests.{eqb-true, eqb-false, eq-eqb, ne_eqb, leb-true, leb-false, le-leb}
 use Rattle.num.specs.Number.{le_at}
-use Rattle.num.proofs.Choice.{both_true, true_both, if_first, if_true, either_second, second_either}
+use Rattle.num.proofs.Choice.{both_true, true_both, if_true, either_second, second_either}
 use Rattle.sstable.specs.Limits.{max_key_bytes, max_value_bytes, within_limits}
 use Rattle.block.specs.Walk.{Entry}
 use Rattle.arena.specs.declared.Cursor.{Cursor}
-use Rattle.arena.specs.declared.Visited.{Visited}
-use Rattle.arena.specs.declared.Visited.TheVariants as visited
 use Rattle.versions.specs.Version.{visit_of}
-use Rattle.num.specs.Answer.{Answer, given, refused}
+use Rattle.std.specs.Prelude.{Result, Ok, Err}
+use Rattle.refusal.specs.declared.Refusal.{Refusal}
+use Rattle.refusal.proofs.Asked.{refused_ok, asked}
 use Rattle.validate.specs.Walk.{Inputs, value_of, Progress, progress_for, entry_asked}
 use Rattle.opening.specs.Open.{start_at, start_of, ends_together, prefixes_counted}
 use Rattle.agreement.specs.Keys.{address_of, version_count, first_version, prefix_count}
@@ -29,14 +29,10 @@ use Rattle.num.specs.Choice.{when◌then◌else◌}
 abbrev pub behind : Progress → Entry → Cursor → Progress
 behind p e d = record { previous = when eqb p.cursor.remaining 0 then e.key else p.previous; cursor = d }
 
-progress_from : (p q : Progress) (e : Entry) (v : Visited) → progress_for p e v ≡ given q → (d : Cursor) × (v ≡ visited.Went d) × (behind p e d ≡ q)
+progress_from : (p q : Progress) (e : Entry) (v : Result Cursor Refusal) → progress_for p e v ≡ Ok q → (d : Cursor) × (v ≡ Ok d) × (behind p e d ≡ q)
 unfolding progress_for
-progress_from p q e (visited.Went d) r = (d, refl, cc)
-progress_from p q e (visited.Refused n) r = absurd (let z : ◌≡◌ {A = ℕ} 0 1 = cc in omega arith)
-
--- an answer that was given passed its test
-reached_first : (b : Bool) (x : Answer Progress) (n : ℕ) (q : Progress) → (when b then x else refused n) ≡ given q → (b ≡ true) × (x ≡ given q)
-reached_first b x n q e = if_first b x (refused n) (given q) (λ r. let z : ◌≡◌ {A = ℕ} 0 1 = cc in omega arith) e
+progress_from p q e (Ok d) r = (d, refl, cc)
+progress_from p q e (Err x) r = refused_ok r
 
 module _ (t : Inputs) where
   open t use {section as s, backing as «data», opened as o, end, half}
@@ -50,17 +46,17 @@ module _ (t : Inputs) where
     pub scratch : length e.key ≤ half
 
   -- a record passes if it is within the limits and its visit goes on
-  pub record_passed : (p q : Progress) (e : Entry) → entry_asked t p e ≡ given q
-      → Limited e × ((d : Cursor) × (visit_of s o end p.cursor p.previous e (value_of «data» e) ≡ visited.Went d) × (behind p e d ≡ q))
+  pub record_passed : (p q : Progress) (e : Entry) → entry_asked t p e ≡ Ok q
+      → Limited e × ((d : Cursor) × (visit_of s o end p.cursor p.previous e (value_of «data» e) ≡ Ok d) × (behind p e d ≡ q))
   unfolding entry_asked within_limits max_key_bytes max_value_bytes
   record_passed p q e r =
-      let w₁ = reached_first _ _ 14 q r in
-      let w₂ = reached_first _ _ 15 q w₁.1 in
+      let w₁ = asked _ _ _ q r in
+      let w₂ = asked _ _ _ q w₁.1 in
       let b = both_true _ _ w₁.0 in
       (record { key = leb-true _ _ b.0; value = leb-true _ _ b.1; scratch = leb-true _ _ w₂.0 }, progress_from p q e _ w₂.1)
 
-  pub passed_record : (p : Progress) (e : Entry) (d : Cursor) → Limited e → visit_of s o end p.cursor p.previous e (value_of «data» e) ≡ visited.Went d
-      → entry_asked t p e ≡ given (behind p e d)
+  pub passed_record : (p : Progress) (e : Entry) (d : Cursor) → Limited e → visit_of s o end p.cursor p.previous e (value_of «data» e) ≡ Ok d
+      → entry_asked t p e ≡ Ok (behind p e d)
   unfolding entry_asked within_limits max_key_bytes max_value_bytes progress_for
   passed_record p e d l v =
       if_true _ _ _ (true_both _ _ (le-leb _ _ l.key) (le-leb _ _ l.value))

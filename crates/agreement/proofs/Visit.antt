@@ -12,7 +12,7 @@ use borrow.Author.Tests.{eqb-true, eqb-false, eq-eqb, ne_eqb, leb-true, le-leb, 
 use Rattle.num.specs.Choice.{when◌then◌else◌, both, either}
 use Rattle.num.specs.Number.{le_at}
 use Rattle.num.specs.Order.{less_than}
-use Rattle.num.proofs.Choice.{both_true, true_both, if_case, if_first, if_true, if_false, either_second, second_either}
+use Rattle.num.proofs.Choice.{both_true, true_both, if_case, if_true, if_false, either_second, second_either}
 use Rattle.crc32.specs.V42.{crc_of}
 use Rattle.sstable.specs.Limits.{max_key_bytes}
 use Rattle.block.specs.Walk.{Entry}
@@ -20,8 +20,9 @@ use Rattle.point.specs.Hash.{hash_value, fingerprint_of}
 use Rattle.encoding.specs.Encoding.{scan_header_len, group, key_header_len_of, version_len_of}
 use Rattle.header.specs.declared.Opened.{Opened}
 use Rattle.arena.specs.declared.Cursor.{Cursor}
-use Rattle.arena.specs.declared.Visited.{Visited}
-use Rattle.arena.specs.declared.Visited.TheVariants.{Went, Refused}
+use Rattle.std.specs.Prelude.{Result, Ok, Err}
+use Rattle.refusal.specs.declared.Refusal.{Refusal}
+use Rattle.refusal.proofs.Asked.{refused_ok, asked}
 use Rattle.arena.specs.Key.{key_header_at, at_anchor, suffix_address, anchor_of, anchor_len_of, key_inside_of, key_fits_of, key_rises, scan_names, slot_place, slot_names, prefix_changes, entered, key_for, key_of}
 use Rattle.versions.specs.Version.{stored_key, stored_seq, stored_value, kind_in, length_in, stored_offset, stored_checksum, version_agrees, checksum_agrees, advanced, version_for, visit_of}
 use Rattle.versions.proofs.Agreeing.{agreeing, agrees}
@@ -155,9 +156,6 @@ module _ (s : List ℕ) (o : Opened) (k : ℕ) (c : Cursor) (b : Before s o k c)
 -- ---- the key's order, scan address and slot
 
 -- an answer that goes on passed its test
-went : (b : Bool) (v : Visited) (n : ℕ) (d : Cursor) → (when b then v else Refused n) ≡ Went d → (b ≡ true) × (v ≡ Went d)
-went b v n d e = if_first b v (Refused n) (Went d) (λ q. let z : ◌≡◌ {A = ℕ} 0 1 = cc in omega arith) e
-
 module _ (s : List ℕ) (o : Opened) (end k : ℕ) (c : Cursor) (last key : List ℕ) (b : Before s o k c) (m : Counted s o k last c) where
   rises : key_rises c last key ≡ true → (i : ℕ) → k ≡ suc i → less_than (key_at s o i) key ≡ true
   unfolding key_rises
@@ -191,15 +189,15 @@ module _ (s : List ℕ) (o : Opened) (end k : ℕ) (c : Cursor) (last key : List
   unfolding scan_names
   scanning h = second_either _ _ (λ f. eq-eqb _ _ (scan_place ∙ h (eqb-false o.scan 0 f) ∙ sym address_is))
 
-  key_asked : (d : Cursor) → key_of s o end c last key ≡ Went d
+  key_asked : (d : Cursor) → key_of s o end c last key ≡ Ok d
       → KeyAsked s o end k key × (entered o c (key_header_of s o k) (prefix_changes s o c last key) ≡ d)
   unfolding key_of key_for slot_names
   key_asked d e =
-      let w₀ = went _ _ 16 d e in
-      let w₁ = went _ _ 16 d (ap (key_for s o end c last key) (sym (header_is s o k c b)) ∙ w₀.1) in
-      let w₂ = went _ _ 17 d w₁.1 in
-      let w₃ = went _ _ 18 d w₂.1 in
-      let w₄ = went _ _ 19 d w₃.1 in
+      let w₀ = asked _ _ _ d e in
+      let w₁ = asked _ _ _ d (ap (key_for s o end c last key) (sym (header_is s o k c b)) ∙ w₀.1) in
+      let w₂ = asked _ _ _ d w₁.1 in
+      let w₃ = asked _ _ _ d w₂.1 in
+      let w₄ = asked _ _ _ d w₃.1 in
       let f = stands s o k c b end w₀.0 w₁.0 in
       let t = both_true _ _ w₄.0 in (
         record {
@@ -213,7 +211,7 @@ module _ (s : List ℕ) (o : Opened) (end k : ℕ) (c : Cursor) (last key : List
         let q = w₄.1 in cc,
       )
 
-  asked_key : KeyAsked s o end k key → key_of s o end c last key ≡ Went (entered o c (key_header_of s o k) (prefix_changes s o c last key))
+  asked_key : KeyAsked s o end k key → key_of s o end c last key ≡ Ok (entered o c (key_header_of s o k) (prefix_changes s o c last key))
   unfolding key_of key_for slot_names
   asked_key a =
       if_true _ _ _ (inside s o k c b end a.below a.stands)
@@ -359,25 +357,25 @@ module _ (s : List ℕ) (o : Opened) (k j : ℕ) (c : Cursor) (w : Within s o k 
 
 -- ---- one visit
 
-version_went : (s : List ℕ) (o : Opened) (k j : ℕ) (c d : Cursor) (e : Entry) (value : List ℕ) → Within s o k j c → version_for s o e value (Went c) ≡ Went d
+version_went : (s : List ℕ) (o : Opened) (k j : ℕ) (c d : Cursor) (e : Entry) (value : List ℕ) → Within s o k j c → version_for s o e value (Ok c) ≡ Ok d
     → VersionAsked s o k j e value × (advanced o c e.seq ≡ d)
 unfolding version_for
 version_went s o k j c d e value w t =
-    let w₁ = went _ _ 20 d t in
-    let w₂ = went _ _ 21 d w₁.1 in
+    let w₁ = asked _ _ _ d t in
+    let w₂ = asked _ _ _ d w₁.1 in
     (asked_version s o k j c w e value w₁.0 w₂.0, let q = w₂.1 in cc)
 
 went_version : (s : List ℕ) (o : Opened) (k j : ℕ) (c : Cursor) (e : Entry) (value : List ℕ) → Within s o k j c → VersionAsked s o k j e value
-    → version_for s o e value (Went c) ≡ Went (advanced o c e.seq)
+    → version_for s o e value (Ok c) ≡ Ok (advanced o c e.seq)
 unfolding version_for
 went_version s o k j c e value w a =
     if_true _ _ _ (version_agrees_lem s o k j c w e value a) ∙ if_true _ _ _ (checksum_agrees_lem s o k j c w e value a)
 
-went_from : (s : List ℕ) (o : Opened) (d : Cursor) (e : Entry) (value : List ℕ) (v : Visited) → version_for s o e value v ≡ Went d
-    → (c : Cursor) × (v ≡ Went c) × (version_for s o e value (Went c) ≡ Went d)
+went_from : (s : List ℕ) (o : Opened) (d : Cursor) (e : Entry) (value : List ℕ) (v : Result Cursor Refusal) → version_for s o e value v ≡ Ok d
+    → (c : Cursor) × (v ≡ Ok c) × (version_for s o e value (Ok c) ≡ Ok d)
 unfolding version_for
-went_from s o d e value (Went c) t = (c, refl, t)
-went_from s o d e value (Refused n) t = absurd (let z : ◌≡◌ {A = ℕ} 0 1 = cc in omega arith)
+went_from s o d e value (Ok c) t = (c, refl, t)
+went_from s o d e value (Err x) t = refused_ok t
 
 -- the cursor behind the first record of a key
 unfoldable pub behind_first : List ℕ → Opened → ℕ → Cursor → List ℕ → Entry → Cursor
@@ -385,24 +383,24 @@ behind_first s o k c last e = advanced o (entered o c (key_header_of s o k) (pre
 
 module _ (s : List ℕ) (o : Opened) (end k : ℕ) (c : Cursor) (last : List ℕ) (e : Entry) (value : List ℕ) (b : Before s o k c) (m : Counted s o k last c) where
   -- a visit of a key's first record that goes on: questions 16 to 21 hold
-  pub key_visit : (d : Cursor) → visit_of s o end c last e value ≡ Went d
+  pub key_visit : (d : Cursor) → visit_of s o end c last e value ≡ Ok d
       → KeyAsked s o end k e.key × VersionAsked s o k 0 e value × (behind_first s o k c last e ≡ d)
   unfolding visit_of behind_first
   key_visit d t =
       let x = entered o c (key_header_of s o k) (prefix_changes s o c last e.key) in
-      let n = if_true (eqb c.remaining 0) (key_of s o end c last e.key) (Went c) (eq-eqb c.remaining 0 b.remaining) in
+      let n = if_true (eqb c.remaining 0) (key_of s o end c last e.key) (Ok c) (eq-eqb c.remaining 0 b.remaining) in
       let f = went_from s o d e value (key_of s o end c last e.key) (ap (version_for s o e value) (sym n) ∙ t) in
       let a = key_asked s o end k c last e.key b m f.0 f.1 in
       let v = version_went s o k 0 x d e value (entered_within s o k c b (prefix_changes s o c last e.key))
-      (ap (λ (y : Cursor). version_for s o e value (Went y)) a.1 ∙ f.2) in
+      (ap (λ (y : Cursor). version_for s o e value (Ok y)) a.1 ∙ f.2) in
       (a.0, v.0, v.1)
 
   -- and conversely
-  pub visit_key : KeyAsked s o end k e.key → VersionAsked s o k 0 e value → visit_of s o end c last e value ≡ Went (behind_first s o k c last e)
+  pub visit_key : KeyAsked s o end k e.key → VersionAsked s o k 0 e value → visit_of s o end c last e value ≡ Ok (behind_first s o k c last e)
   unfolding visit_of behind_first
   visit_key a v =
       ap (version_for s o e value)
-      (if_true (eqb c.remaining 0) (key_of s o end c last e.key) (Went c) (eq-eqb c.remaining 0 b.remaining) ∙ asked_key s o end k c last e.key b m a)
+      (if_true (eqb c.remaining 0) (key_of s o end c last e.key) (Ok c) (eq-eqb c.remaining 0 b.remaining) ∙ asked_key s o end k c last e.key b m a)
       ∙ went_version s o k 0 _ e value (entered_within s o k c b (prefix_changes s o c last e.key)) v
 
   -- then the cursor stands before the key's second version, and one more key is counted
@@ -415,16 +413,16 @@ module _ (s : List ℕ) (o : Opened) (end k : ℕ) (c : Cursor) (last : List ℕ
   )
 
 module _ (s : List ℕ) (o : Opened) (end k j : ℕ) (c : Cursor) (last : List ℕ) (e : Entry) (value : List ℕ) (w : Within s o k j c) (h : j < version_count s o k) where
-  stays : (when eqb c.remaining 0 then key_of s o end c last e.key else Went c) ≡ Went c
-  stays = let r = w.remaining in if_false (eqb c.remaining 0) (key_of s o end c last e.key) (Went c) (ne_eqb c.remaining 0 (λ z. omega arith))
+  stays : (when eqb c.remaining 0 then key_of s o end c last e.key else Ok c) ≡ Ok c
+  stays = let r = w.remaining in if_false (eqb c.remaining 0) (key_of s o end c last e.key) (Ok c) (ne_eqb c.remaining 0 (λ z. omega arith))
 
   -- a visit of a later record of a key that goes on: questions 20 and 21 hold
-  pub version_visit : (d : Cursor) → visit_of s o end c last e value ≡ Went d → VersionAsked s o k j e value × (advanced o c e.seq ≡ d)
+  pub version_visit : (d : Cursor) → visit_of s o end c last e value ≡ Ok d → VersionAsked s o k j e value × (advanced o c e.seq ≡ d)
   unfolding visit_of
   version_visit d t = version_went s o k j c d e value w (ap (version_for s o e value) (sym stays) ∙ t)
 
   -- and conversely
-  pub visit_version : VersionAsked s o k j e value → visit_of s o end c last e value ≡ Went (advanced o c e.seq)
+  pub visit_version : VersionAsked s o k j e value → visit_of s o end c last e value ≡ Ok (advanced o c e.seq)
   unfolding visit_of
   visit_version v = ap (version_for s o e value) stays ∙ went_version s o k j c e value w v
 

@@ -17,10 +17,9 @@ use Rattle.num.proofs.Steps.{first_or_later}
 use Rattle.block.specs.Walk.{Entry}
 use Rattle.header.specs.declared.Opened.{Opened}
 use Rattle.arena.specs.declared.Cursor.{Cursor}
-use Rattle.arena.specs.declared.Visited.TheVariants.{Went}
 use Rattle.arena.specs.Key.{slot_place}
 use Rattle.versions.specs.Version.{advanced, visit_of}
-use Rattle.num.specs.Answer.{given}
+use Rattle.std.specs.Prelude.{Ok}
 use Rattle.validate.specs.Walk.{Inputs, value_of, Progress, entry_asked, entries_from}
 use Rattle.opening.specs.Open.{start_of, ends_together, prefixes_counted, inputs_of}
 use Rattle.validate.proofs.Entries.{entries_passed, passed_entries}
@@ -106,7 +105,7 @@ module _ (t : Inputs) (es : List Entry) where
   ended_left r k p l (within i j q v h f) m w = absurd (let x = v.remaining in let y = w.none_left in omega arith)
 
   module _ (r k : ℕ) (p q : Progress) (e : Entry) (d : Cursor) (x : e ≡ entry_at es r) (m : Counted s o k p.previous p.cursor)
-      (l : Limited t e) (v : visit_of s o end p.cursor p.previous e (value_of «data» e) ≡ Went d) (u : behind p e d ≡ q)
+      (l : Limited t e) (v : visit_of s o end p.cursor p.previous e (value_of «data» e) ≡ Ok d) (u : behind p e d ≡ q)
     where
       key_left : Before s o k p.cursor → r ≡ first_version s o k
           → (Stands t (suc k) (suc r) q.cursor → Counted s o (suc k) q.previous q.cursor → Left (suc k) (suc r)) → Left k r
@@ -149,7 +148,7 @@ module _ (t : Inputs) (es : List Entry) where
           }
 
   record_left : (r k : ℕ) (p q : Progress) (e : Entry) → e ≡ entry_at es r → Stands t k r p.cursor → Counted s o k p.previous p.cursor
-      → entry_asked t p e ≡ given q
+      → entry_asked t p e ≡ Ok q
       → ((i : ℕ) → Stands t i (suc r) q.cursor → Counted s o i q.previous q.cursor → Left i (suc r))
       → Left k r
   record_left r k p q e x (before b f) m a rest =
@@ -160,7 +159,7 @@ module _ (t : Inputs) (es : List Entry) where
       version-left r k p q e w.1.0 x m w.0 w.1.1 w.1.2 i j y v h f (rest k)
 
   forward : (rest : List Entry) (r k : ℕ) (p q : Progress) → drop r es ≡ rest → r + length rest ≡ length es → Stands t k r p.cursor
-      → Counted s o k p.previous p.cursor → entries_from t p rest ≡ given q → Ended q → Left k r
+      → Counted s o k p.previous p.cursor → entries_from t p rest ≡ Ok q → Ended q → Left k r
   unfolding entries_from
   forward [] r k p q d l st m w z = let e : q ≡ p = cc in ended_left r k p (omega arith) st m (subst Ended e z)
   forward (e ∷ rest) r k p q d l st m w z =
@@ -175,7 +174,7 @@ module _ (t : Inputs) (es : List Entry) where
     keys : ℕ
     progress : Progress
     few : keys ≤ o.count
-    asked : entry_asked t p e ≡ given progress
+    asked : entry_asked t p e ≡ Ok progress
     stands : Stands t keys (suc r) progress.cursor
     counted : Counted s o keys progress.previous progress.cursor
 
@@ -254,7 +253,7 @@ module _ (t : Inputs) (es : List Entry) where
       left-record (within i j y w u g) = left-version i j y w u g
 
     backward : (rest : List Entry) (r k : ℕ) (p : Progress) → drop r es ≡ rest → r + length rest ≡ length es → k ≤ o.count → Stands t k r p.cursor
-        → Counted s o k p.previous p.cursor → (q : Progress) × (entries_from t p rest ≡ given q) × Ended q
+        → Counted s o k p.previous p.cursor → (q : Progress) × (entries_from t p rest ≡ Ok q) × Ended q
     unfolding entries_from
     backward [] r k p d l h st m = (p, refl, left_ended r k p (omega arith) h st m)
     backward (e ∷ rest) r k p d l h st m =
@@ -350,20 +349,20 @@ module _ (s «data» : List ℕ) (scratch : ℕ) (o : Opened) (es : List Entry) 
 
   -- the same with the tests of questions 22 and 23, where the pairs end at a place of the data
   pub accepted_exactly : (at : ℕ)
-      → ((q : Progress) × (entries_from (inputs_of s «data» scratch o) (start_of o) es ≡ given q)
+      → ((q : Progress) × (entries_from (inputs_of s «data» scratch o) (start_of o) es ≡ Ok q)
       × (ends_together (inputs_of s «data» scratch o) at q.cursor ≡ true) × (prefixes_counted (inputs_of s «data» scratch o) q.cursor ≡ true))
       ↔ ((at ≡ length «data») × Agrees s «data» scratch o es)
   unfolding t inputs_of
   accepted_exactly at = (to, from)
     where
-      to : (q : Progress) × (entries_from t (start_of o) es ≡ given q) × (ends_together t at q.cursor ≡ true) × (prefixes_counted t q.cursor ≡ true)
+      to : (q : Progress) × (entries_from t (start_of o) es ≡ Ok q) × (ends_together t at q.cursor ≡ true) × (prefixes_counted t q.cursor ≡ true)
           → (at ≡ length «data») × Agrees s «data» scratch o es
       to w =
           let e = (ends_exactly t at w.0.cursor).0 w.2 in
           (e.0, walked_agrees (record { last = w.0; through = w.1; at_end = e.1; none_left = e.2; all_keys = e.3; counted = w.3 }))
 
       from : (at ≡ length «data») × Agrees s «data» scratch o es
-          → (q : Progress) × (entries_from t (start_of o) es ≡ given q) × (ends_together t at q.cursor ≡ true) × (prefixes_counted t q.cursor ≡ true)
+          → (q : Progress) × (entries_from t (start_of o) es ≡ Ok q) × (ends_together t at q.cursor ≡ true) × (prefixes_counted t q.cursor ≡ true)
       from h =
           let w = agrees_walked h.1 in
           (w.last, w.through, (ends_exactly t at w.last.cursor).1 (h.0, w.at_end, w.none_left, w.all_keys), w.counted)

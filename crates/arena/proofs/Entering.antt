@@ -6,6 +6,8 @@ use mathlib.Core.Bool.{Bool, true, false}
 use Prim.Native.Nat.{ℕ, ◌+◌, ◌<◌, ◌≤◌}
 use native.Mathlib.Omega.{arith}
 use borrow.Author.Tests.{leb-true, ltb-true}
+use Rattle.std.specs.Prelude.{Result, Ok, Err}
+use Rattle.refusal.specs.declared.Refusal.{Refusal}
 use Rattle.num.specs.Choice.{when◌then◌else◌}
 use Rattle.num.proofs.Choice.{both_true, if_case}
 use Rattle.point.specs.Hash.{hash_value}
@@ -13,8 +15,6 @@ use Rattle.encoding.specs.Encoding.{key_header_len_of}
 use Rattle.header.specs.declared.Opened.{Opened}
 use Rattle.arena.specs.declared.Cursor.{Cursor}
 use Rattle.arena.specs.declared.KeyHeader.{KeyHeader}
-use Rattle.arena.specs.declared.Visited.{Visited}
-use Rattle.arena.specs.declared.Visited.TheVariants.{Went, Refused}
 use Rattle.arena.specs.Internal.{Inside}
 use Rattle.arena.specs.Key.{key_header_at, at_anchor, suffix_address, anchor_of, anchor_len_of, key_inside_of, key_rises, scan_names, slot_names, prefix_changes, entered, key_for, key_of}
 use Rattle.arena.proofs.Questions.{Fitting, fitting}
@@ -24,11 +24,11 @@ pub inside_asked : (o : Opened) (end : ℕ) (c : Cursor) → key_inside_of o end
 unfolding key_inside_of
 inside_asked o end c t = let b = both_true _ _ t in (ltb-true _ _ b.0, leb-true _ _ b.1)
 
-pub refused_went : {A : Type 0} (n : ℕ) (d : Cursor) → Refused n ≡ Went d → A
+pub refused_went : {A : Type 0} (n : Refusal) (d : Cursor) → Err n ≡ Ok d → A
 refused_went n d e = absurd (let z : ◌≡◌ {A = ℕ} 0 1 = cc in omega arith)
 
 -- what goes on was not refused by the question
-pub passed : (b : Bool) (v : Visited) (n : ℕ) (d : Cursor) → when◌then◌else◌ b v (Refused n) ≡ Went d → (b ≡ true) × (v ≡ Went d)
+pub passed : (b : Bool) (v : Result Cursor Refusal) (n : Refusal) (d : Cursor) → when◌then◌else◌ b v (Err n) ≡ Ok d → (b ≡ true) × (v ≡ Ok d)
 unfolding when◌then◌else◌
 passed true v n d e = (refl, e)
 passed false v n d e = refused_went n d e
@@ -44,7 +44,7 @@ pub record Entered (s : List ℕ) (o : Opened) (end : ℕ) (c : Cursor) (previou
   pub cursor : entered o c (key_header_at s o.encoding c.pos) (prefix_changes s o c previous key) ≡ d
 
 pub key_entered : (s : List ℕ) (o : Opened) (end : ℕ) (c : Cursor) (previous key : List ℕ) (d : Cursor)
-    → key_of s o end c previous key ≡ Went d → Entered s o end c previous key d
+    → key_of s o end c previous key ≡ Ok d → Entered s o end c previous key d
 unfolding key_of key_for
 key_entered s o end c previous key d t =
     let p = passed _ _ _ d t in
@@ -93,7 +93,7 @@ entered_inside s o end c h changes i l f =
 
 -- a key that is entered has a version to come, and lies in the arena
 pub key_inside : (s : List ℕ) (o : Opened) (end : ℕ) (c : Cursor) (previous key : List ℕ) (d : Cursor)
-    → Inside s o end c → key_of s o end c previous key ≡ Went d → (Inside s o end d) × (1 ≤ d.remaining)
+    → Inside s o end c → key_of s o end c previous key ≡ Ok d → (Inside s o end d) × (1 ≤ d.remaining)
 unfolding entered
 key_inside s o end c previous key d i t =
     let k = key_entered s o end c previous key d t in

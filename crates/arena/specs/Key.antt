@@ -1,8 +1,10 @@
 -- A key's first record: questions 16 to 19, and the prefix count of question 23.
-use Rattle.std.specs.Prelude.{ℕ, ◌+◌, ◌*◌, ◌-◌, ◌%◌, List, Bool, true, not, eqb, leb, ltb, take}
+use Rattle.std.specs.Prelude.{ℕ, ◌+◌, ◌*◌, ◌-◌, ◌%◌, List, Bool, true, not, eqb, leb, ltb, take, Result, Ok, Err}
 use Rattle.num.specs.Choice.{when◌then◌else◌, ask◌otherwise◌then◌, both, either}
 use Rattle.num.specs.Number.{le_at}
 use Rattle.num.specs.Order.{less_than, equal_bytes}
+use Rattle.refusal.specs.declared.Refusal.{Refusal}
+use Rattle.refusal.specs.declared.Refusal.TheVariants as refusal
 use Rattle.sstable.specs.Limits.{max_key_bytes}
 use Rattle.point.specs.Hash.{hash_value, bucket_of, slot_of, fingerprint_of}
 use Rattle.encoding.specs.declared.Encoding.{Encoding}
@@ -10,8 +12,6 @@ use Rattle.encoding.specs.Encoding.{header_len, scan_header_len, group, key_head
 use Rattle.header.specs.declared.Opened.{Opened}
 use Rattle.arena.specs.declared.Cursor.{Cursor}
 use Rattle.arena.specs.declared.KeyHeader.{KeyHeader}
-use Rattle.arena.specs.declared.Visited.{Visited}
-use Rattle.arena.specs.declared.Visited.TheVariants.{Went, Refused}
 
 -- the numbers of the key header at a place
 unfoldable pub key_header_at : List ℕ → Encoding → ℕ → KeyHeader
@@ -107,18 +107,18 @@ entered o c h changes =
     }
 
 -- questions 16 to 19 of a key header at the cursor, for a record's key: the first "no" gives its number
-unfoldable pub key_for : List ℕ → Opened → ℕ → Cursor → List ℕ → List ℕ → KeyHeader → Visited
+unfoldable pub key_for : List ℕ → Opened → ℕ → Cursor → List ℕ → List ℕ → KeyHeader → Result Cursor Refusal
 key_for s o end c previous key h =
-    ask key_fits_of o end c h otherwise Refused 16 then
-    ask key_rises c previous key otherwise Refused 17 then
-    ask scan_names s o c otherwise Refused 18 then
-    ask slot_names s o c (hash_value key o.seed) otherwise Refused 19 then
-    Went (entered o c h (prefix_changes s o c previous key))
+    ask key_fits_of o end c h otherwise Err refusal.KeyRecord then  -- 16
+    ask key_rises c previous key otherwise Err refusal.KeyOrder then  -- 17
+    ask scan_names s o c otherwise Err refusal.ScanAddress then  -- 18
+    ask slot_names s o c (hash_value key o.seed) otherwise Err refusal.Slot then  -- 19
+    Ok (entered o c h (prefix_changes s o c previous key))
 
 -- questions 16 to 19 of a record's key at the cursor
-unfoldable pub key_of : List ℕ → Opened → ℕ → Cursor → List ℕ → List ℕ → Visited
+unfoldable pub key_of : List ℕ → Opened → ℕ → Cursor → List ℕ → List ℕ → Result Cursor Refusal
 key_of s o end c previous key =
-    ask key_inside_of o end c otherwise Refused 16 then
+    ask key_inside_of o end c otherwise Err refusal.KeyRecord then  -- 16
     key_for s o end c previous key (key_header_at s o.encoding c.pos)
 
 -- for proofs alone: `unfolding key_defs` opens the definitions of this file

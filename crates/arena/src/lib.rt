@@ -9,6 +9,8 @@ ghost use Rattle.arena.specs.Key.{key_header_at, at_anchor, anchor_of, anchor_le
 
 use encoding::Encoding;
 use header::Opened;
+use num::LittleEndian;
+use refusal::{Refusal, ask};
 
 // Where the walk of the arena stands.
 #[derive(Clone, Copy)]
@@ -40,13 +42,6 @@ pub struct KeyHeader {
     pub shared: usize,
     pub suffix_len: usize,
     pub versions: usize,
-}
-
-// The cursor behind a record, or the number of the question that it fails.
-#[derive(Clone, Copy)]
-pub enum Visited {
-    Went(Cursor),
-    Refused(u64),
 }
 
 // The numbers of the key header at a place.
@@ -170,7 +165,7 @@ fn slot_place(section: &[u8], o: Opened, h: u64) -> usize
     ensures { result ≡ slot_place section.now o h }
 {
     let bucket = point::bucket(h, o.buckets as u64) as usize;
-    let pilot = num::u32_at(section, Encoding::HEADER + 4 * bucket);
+    let pilot = u32::read(section, Encoding::HEADER + 4 * bucket);
     let slot = point::slot(h, pilot, o.count as u64) as usize;
     Encoding::HEADER + 4 * o.buckets + slot * (o.encoding.address + 2)
 }
@@ -186,7 +181,7 @@ fn slot_names(section: &[u8], o: Opened, c: Cursor, h: u64) -> bool
     if num::uint(section, at, address) != (c.pos - o.arena) as u64 {
         return false;
     }
-    num::u16_at(section, at + address) == point::fingerprint(h) as u64
+    u16::read(section, at + address) == point::fingerprint(h)
 }
 
 // The first bytes of a key, at most as many as the count says.
@@ -200,6 +195,7 @@ fn cut(key: &[u8], count: usize) -> &[u8]
 }
 
 // Does question 23 count a prefix at this key?
+#[tactic(auto, using(crate::proofs::Reading::scan_header_inside, num::proofs::Order::pointwise_bytes), unfolding(crate::specs::Key::prefix_changes, num::specs::Choice::choice_defs))]
 fn prefix_changes(section: &[u8], o: Opened, c: Cursor, previous: &[u8], key: &[u8]) -> bool
     requires { Readable section.now o }
     ensures { result ≡ prefix_changes section.now o c previous.now key.now }
@@ -210,8 +206,8 @@ fn prefix_changes(section: &[u8], o: Opened, c: Cursor, previous: &[u8], key: &[
     if c.groups == 0 {
         return true;
     }
-    let count = num::u32_at(section, o.scan + 8) as usize;
-    !sstable::keys_equal(cut(key, count), cut(previous, count))
+    let count = u32::read(section, o.scan + 8) as usize;
+    cut(key, count) != cut(previous, count)
 }
 
 // The prefixes counted so far, with this key's if it changes.
@@ -247,6 +243,7 @@ fn entered(o: Opened, c: Cursor, h: KeyHeader, changes: bool) -> Cursor
 }
 
 // Questions 16 to 19 at a key's first record.
+#[tactic(auto, using(crate::proofs::Entering::inside_asked, crate::proofs::Questions::fitting, crate::proofs::Reading::key_header_narrow), unfolding(crate::specs::Key::key_of, crate::specs::Key::key_for, num::specs::Choice::choice_defs))]
 pub fn key_record(
     section: &[u8],
     o: Opened,
@@ -254,28 +251,20 @@ pub fn key_record(
     c: Cursor,
     previous: &[u8],
     key: &[u8],
-) -> Visited
+) -> Result<Cursor, Refusal>
     requires readable { Readable section.now o }
     requires inside { Inside section.now o end c }
     ensures { result ≡ key_of section.now o end c previous.now key.now }
 {
-    if !key_inside(o, end, c) {
-        return Visited::Refused(16);
-    }
-    let e = o.encoding;
-    let h = key_header_at(section, e, c.pos);
-    if !key_fits(o, end, c, h) {
-        return Visited::Refused(16);
-    }
-    if !key_rises(c, previous, key) {
-        return Visited::Refused(17);
-    }
-    if !scan_names(section, o, c) {
-        return Visited::Refused(18);
-    }
-    if !slot_names(section, o, c, point::hash(key, o.seed)) {
-        return Visited::Refused(19);
-    }
+    ask(key_inside(o, end, c), Refusal::KeyRecord)?;
+    let h = key_header_at(section, o.encoding, c.pos);
+    ask(key_fits(o, end, c, h), Refusal::KeyRecord)?;
+    ask(key_rises(c, previous, key), Refusal::KeyOrder)?;
+    ask(scan_names(section, o, c), Refusal::ScanAddress)?;
+    ask(
+        slot_names(section, o, c, point::hash(key, o.seed)),
+        Refusal::Slot,
+    )?;
     let changes = prefix_changes(section, o, c, previous, key);
-    Visited::Went(entered(o, c, h, changes))
+    Ok(entered(o, c, h, changes))
 }

@@ -7,12 +7,13 @@ use native.Mathlib.Omega.{arith}
 use lib.ListN.{length, drop, length-append, length-drop, get_or-append}
 use lib.Seq.{get_or-append-add, get_or-drop}
 use borrow.Author.Tests.{eq-eqb, le-leb}
-use Rattle.num.specs.Answer.{Answer, given, refused}
+use Rattle.std.specs.Prelude.{Result, Ok, Err}
+use Rattle.refusal.specs.declared.Refusal.{Refusal}
+use Rattle.refusal.proofs.Asked.{refused_ok, ok_refused, same_ok}
 use Rattle.num.specs.Choice.{when◌then◌else◌}
 use Rattle.block.proofs.Sound.{sound_exactly}
 use Rattle.opening.specs.Open.{block_bytes}
 use Rattle.blocks.specs.declared.BlockRecord.{BlockRecord}
-use Rattle.blocks.specs.declared.Filled.TheVariants.{Wrote, Refused}
 use Rattle.blocks.specs.Blocks.{record_value, pair_record, records_from, placed_for, fill_of, filled_read, filled_places, no_record}
 use Rattle.blocks.specs.Internal.{offset_at, len_at}
 use Rattle.blocks.proofs.Pairs.{pair_passed, pair_passes, records_split, records_join, offset_next, len_next}
@@ -64,7 +65,7 @@ module _ («data» : List ℕ) (offset len : ℕ) (pairs : List ℕ) where
 -- ---- the definition and the plain terms
 
 -- the record of a pair that passes, and back
-first_is : («data» : List ℕ) (at offset len : ℕ) (pairs : List ℕ) (r : BlockRecord) → pair_record «data» at offset len ≡ given r
+first_is : («data» : List ℕ) (at offset len : ℕ) (pairs : List ℕ) (r : BlockRecord) → pair_record «data» at offset len ≡ Ok r
     → PairRecord «data» (offset ∷ len ∷ pairs) 0 r × (r.offset ≡ at) × (r.offset + r.len ≡ offset + len)
 unfolding record_value meta_in
 first_is «data» at offset len pairs r e =
@@ -74,18 +75,18 @@ first_is «data» at offset len pairs r e =
     (record { offset_is = refl; len_is = refl; inside = p.1; sound = s }, p.0, refl)
 
 first_given : («data» : List ℕ) (at offset len : ℕ) (pairs : List ℕ) (r : BlockRecord) → PairRecord «data» (offset ∷ len ∷ pairs) 0 r → r.offset ≡ at
-    → pair_record «data» at offset len ≡ given r
+    → pair_record «data» at offset len ≡ Ok r
 unfolding record_value meta_in
 first_given «data» at offset len pairs r p start =
     let same : offset ≡ r.offset = sym p.offset_is in
     let size : len ≡ r.len = sym p.len_is in
     rw (same, size) (pair_passes «data» at r.offset r.len (meta_in r) start p.inside ((sound_exactly (block_bytes «data» r.offset r.len) (meta_in r)).1 p.sound))
 
-pub records_plain : («data» blocks : List ℕ) (at : ℕ) (rs : List BlockRecord) → records_from «data» blocks at ≡ given rs → PairRecords «data» blocks at rs
+pub records_plain : («data» blocks : List ℕ) (at : ℕ) (rs : List BlockRecord) → records_from «data» blocks at ≡ Ok rs → PairRecords «data» blocks at rs
 unfolding records_from
 records_plain «data» [] at rs e =
-    subst (PairRecords «data» [] at) (let z : [] ≡ rs = cc in z) (record { paired = refl; each = λ i l. absurd (omega arith); first = λ l. absurd (omega arith); follow = λ i l. absurd (omega arith) })
-records_plain «data» (offset ∷ []) at rs e = absurd (let z : ◌≡◌ {A = ℕ} 0 1 = cc in omega arith)
+    subst (PairRecords «data» [] at) (same_ok e) (record { paired = refl; each = λ i l. absurd (omega arith); first = λ l. absurd (omega arith); follow = λ i l. absurd (omega arith) })
+records_plain «data» (offset ∷ []) at rs e = refused_ok e
 records_plain «data» (offset ∷ len ∷ pairs) at rs e =
     let g = records_split «data» offset len pairs at rs e in
     let f = first_is «data» at offset len pairs g.0 g.1 in
@@ -93,7 +94,7 @@ records_plain «data» (offset ∷ len ∷ pairs) at rs e =
     subst (PairRecords «data» (offset ∷ len ∷ pairs) at) (sym g.2.2)
     (records-more «data» offset len pairs at g.0 g.2.0 f.0 f.1 (subst (λ (k : ℕ). PairRecords «data» pairs k g.2.0) (sym f.2) t))
 
-plain_records : («data» blocks : List ℕ) (at : ℕ) (rs : List BlockRecord) → PairRecords «data» blocks at rs → records_from «data» blocks at ≡ given rs
+plain_records : («data» blocks : List ℕ) (at : ℕ) (rs : List BlockRecord) → PairRecords «data» blocks at rs → records_from «data» blocks at ≡ Ok rs
 unfolding records_from
 plain_records «data» [] at [] p = refl
 plain_records «data» [] at (r ∷ rs) p = absurd (let n = p.paired in omega arith)
@@ -104,11 +105,11 @@ plain_records «data» (offset ∷ len ∷ pairs) at (r ∷ rs) p =
     let f = p.each 0 (omega arith) in
     let same : r.offset + r.len ≡ offset + len = rw (f.offset_is, f.len_is) in
     let t = plain_records «data» pairs (r.offset + r.len) rs (records-less «data» offset len pairs at r rs p) in
-    records_join «data» offset len pairs at r rs (first_given «data» at offset len pairs r f (p.first (omega arith))) (subst (λ (k : ℕ). records_from «data» pairs k ≡ given rs) same t)
+    records_join «data» offset len pairs at r rs (first_given «data» at offset len pairs r f (p.first (omega arith))) (subst (λ (k : ℕ). records_from «data» pairs k ≡ Ok rs) same t)
 
 -- an even list whose records have places is filled
-given_back : («data» blocks : List ℕ) (places : ℕ) (rs : List BlockRecord) → length blocks ≡ 2 * length rs → length rs ≤ places → records_from «data» blocks 0 ≡ given rs
-    → fill_of «data» blocks places ≡ given rs
+given_back : («data» blocks : List ℕ) (places : ℕ) (rs : List BlockRecord) → length blocks ≡ 2 * length rs → length rs ≤ places → records_from «data» blocks 0 ≡ Ok rs
+    → fill_of «data» blocks places ≡ Ok rs
 unfolding fill_of placed_for when◌then◌else◌
 given_back «data» blocks places rs n l e =
     let even : length blocks % 2 ≡ 0 = omega arith in
@@ -118,18 +119,18 @@ pub fills_exactly : FillsExactly
 unfolding FillsExactly
 fills_exactly «data» blocks places rs = (λ e. plain e, λ p. back p.0 p.1)
   where
-    plain : fill_of «data» blocks places ≡ given rs → PairRecords «data» blocks 0 rs × (length rs ≤ places)
+    plain : fill_of «data» blocks places ≡ Ok rs → PairRecords «data» blocks 0 rs × (length rs ≤ places)
     plain e = let g = fill_given «data» blocks places rs e in (records_plain «data» blocks 0 rs g.0, g.1)
 
-    back : PairRecords «data» blocks 0 rs → length rs ≤ places → fill_of «data» blocks places ≡ given rs
+    back : PairRecords «data» blocks 0 rs → length rs ≤ places → fill_of «data» blocks places ≡ Ok rs
     back p l = given_back «data» blocks places rs p.paired l (plain_records «data» blocks 0 rs p)
 
 -- ---- the places afterwards
 
-pub wrote_given : (a : Answer (List BlockRecord)) (n : ℕ) → filled_read a ≡ Wrote n → (rs : List BlockRecord) × (a ≡ given rs) × (n ≡ length rs)
+pub wrote_given : (a : Result (List BlockRecord) Refusal) (n : ℕ) → filled_read a ≡ Ok n → (rs : List BlockRecord) × (a ≡ Ok rs) × (n ≡ length rs)
 unfolding filled_read
-wrote_given (given rs) n e = (rs, refl, cc)
-wrote_given (refused k) n e = absurd (let z : ◌≡◌ {A = ℕ} 0 1 = cc in omega arith)
+wrote_given (Ok rs) n e = (rs, refl, same_ok (sym e))
+wrote_given (Err k) n e = refused_ok e
 
 -- the places of the records, and the places behind them
 pub places_first : (rs before : List BlockRecord) (i : ℕ) → i < length rs → at_place (rs ++ drop (length rs) before) i ≡ at_place rs i
@@ -148,7 +149,7 @@ unfolding FillsPlaces FillsExactly filled_places
 fills_places «data» blocks n before e =
     let g = wrote_given (fill_of «data» blocks (length before)) n e in
     let p = (fills_exactly «data» blocks (length before) g.0).0 g.1 in
-    subst (λ (a : Answer (List BlockRecord)). FilledList «data» blocks n before (filled_places a before)) (sym g.1)
+    subst (λ (a : Result (List BlockRecord) Refusal). FilledList «data» blocks n before (filled_places a before)) (sym g.1)
     (record {
       paired = let m = p.0.paired in let k = g.2 in omega arith;
       room = let m = p.1 in let k = g.2 in omega arith;
@@ -161,6 +162,6 @@ pub refusal_leaves : RefusalLeaves
 unfolding RefusalLeaves filled_read filled_places
 refusal_leaves «data» blocks n before e = go (fill_of «data» blocks (length before)) e
   where
-    go : (a : Answer (List BlockRecord)) → filled_read a ≡ Refused n → filled_places a before ≡ before
-    go (given rs) x = absurd (let z : ◌≡◌ {A = ℕ} 0 1 = cc in omega arith)
-    go (refused k) x = refl
+    go : (a : Result (List BlockRecord) Refusal) → filled_read a ≡ Err n → filled_places a before ≡ before
+    go (Ok rs) x = ok_refused x
+    go (Err k) x = refl

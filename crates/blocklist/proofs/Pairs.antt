@@ -1,6 +1,6 @@
 -- Places are asked for last, and the offset of a pair finds that pair.
 -- Assumes nothing.
-use mathlib.Core.Path.{◌≡◌, refl, ap, ◌∙◌, subst}
+use mathlib.Core.Path.{◌≡◌, refl, sym, ap, ◌∙◌, subst}
 use mathlib.Core.List.{List, [], ◌∷◌, ◌++◌}
 use mathlib.Core.Bool.{Bool, true, false}
 use Prim.Native.Nat.{ℕ, zero, suc, ◌+◌, ◌*◌, ◌-◌, ◌%◌, ◌<◌, ◌≤◌}
@@ -8,13 +8,16 @@ use native.Mathlib.Omega.{arith}
 use lib.Dec.{eqb, leb}
 use lib.ListN.{length, get_or, take, drop, length-append, length-drop}
 use borrow.Author.Tests.{leb-false}
-use Rattle.num.specs.Answer.{Answer, given, refused}
+use Rattle.std.specs.Prelude.{Result, Ok, Err}
+use Rattle.refusal.specs.declared.Refusal.{Refusal}
+use Rattle.refusal.specs.declared.Refusal.TheVariants as refusal
 use Rattle.num.specs.Choice.{when◌then◌else◌, either, one_of}
 use Rattle.num.proofs.Choice.{false_true}
 use Rattle.num.proofs.Lists.{part_length, part_at}
 use Rattle.blocks.specs.declared.BlockRecord.{BlockRecord}
 use Rattle.blocks.specs.Blocks.{records_from, placed_for, fill_of, filled_places, no_record}
-use Rattle.blocks.specs.Internal.{answer_number}
+use Rattle.refusal.specs.Refusal.{refusal_number, answer_number}
+use Rattle.refusal.proofs.Asked.{ok_refused, same_refusal}
 use Rattle.blocks.proofs.Pairs.{refuses_one, records_refuse}
 use Rattle.blocklist.specs.Promises.{at_place, PairRecords, Lowest, FillsExactly, FindsLowest, PlacesAskedLast, PairsAskedFirst, FillNumbers, FindsPairs}
 use Rattle.blocklist.proofs.Filling.{records_plain, fills_exactly, wrote_given, places_first}
@@ -26,28 +29,28 @@ pub places_asked_last : PlacesAskedLast
 unfolding PlacesAskedLast fill_of placed_for answer_number one_of either when◌then◌else◌
 places_asked_last «data» blocks places e = go (eqb (length blocks % 2) 0) (records_from «data» blocks 0) refl e
   where
-    room : (rs : List BlockRecord) → records_from «data» blocks 0 ≡ given rs → (b : Bool) → leb (length rs) places ≡ b → (when b then given rs else refused 41) ≡ refused 41
+    room : (rs : List BlockRecord) → records_from «data» blocks 0 ≡ Ok rs → (b : Bool) → leb (length rs) places ≡ b → (when b then Ok rs else Err refusal.BlocksRoom) ≡ Err refusal.BlocksRoom
         → (rs : List BlockRecord) × PairRecords «data» blocks 0 rs × (places < length rs)
-    room rs a true l x = absurd (let z : ◌≡◌ {A = ℕ} 0 1 = cc in omega arith)
+    room rs a true l x = ok_refused x
     room rs a false l x = (rs, records_plain «data» blocks 0 rs a, leb-false (length rs) places l)
 
-    go : (b : Bool) (a : Answer (List BlockRecord)) → records_from «data» blocks 0 ≡ a → (when b then placed_for places a else refused 11) ≡ refused 41
+    go : (b : Bool) (a : Result (List BlockRecord) Refusal) → records_from «data» blocks 0 ≡ a → (when b then placed_for places a else Err refusal.BlockList) ≡ Err refusal.BlocksRoom
         → (rs : List BlockRecord) × PairRecords «data» blocks 0 rs × (places < length rs)
-    go true (given rs) a x = room rs a (leb (length rs) places) refl x
-    go true (refused n) a x = false_true (refuses_one (records_from «data» blocks 0) (records_refuse «data» blocks 0) 41 (a ∙ x))
+    go true (Ok rs) a x = room rs a (leb (length rs) places) refl x
+    go true (Err n) a x = false_true (refuses_one (records_from «data» blocks 0) (records_refuse «data» blocks 0) refusal.BlocksRoom (a ∙ x))
     go false a p x = absurd (let k = ap answer_number x in omega arith)
 
 pub pairs_asked_first : PairsAskedFirst
 unfolding PairsAskedFirst fill_of placed_for when◌then◌else◌
 pairs_asked_first «data» blocks places n e f others = go (eqb (length blocks % 2) 0) (records_from «data» blocks 0) e
   where
-    room : (rs : List BlockRecord) (b : Bool) → (when b then given rs else refused 41) ≡ refused n → placed_for others (given rs) ≡ refused n
-    room rs true x = absurd (let z : ◌≡◌ {A = ℕ} 0 1 = cc in omega arith)
-    room rs false x = absurd (f (cc))
+    room : (rs : List BlockRecord) (b : Bool) → (when b then Ok rs else Err refusal.BlocksRoom) ≡ Err n → placed_for others (Ok rs) ≡ Err n
+    room rs true x = ok_refused x
+    room rs false x = absurd (f (sym (same_refusal x)))
 
-    go : (b : Bool) (a : Answer (List BlockRecord)) → (when b then placed_for places a else refused 11) ≡ refused n → (when b then placed_for others a else refused 11) ≡ refused n
-    go true (given rs) x = room rs (leb (length rs) places) x
-    go true (refused k) x = x
+    go : (b : Bool) (a : Result (List BlockRecord) Refusal) → (when b then placed_for places a else Err refusal.BlockList) ≡ Err n → (when b then placed_for others a else Err refusal.BlockList) ≡ Err n
+    go true (Ok rs) x = room rs (leb (length rs) places) x
+    go true (Err k) x = x
     go false a x = x
 
 -- a number that is one of two is one of three
@@ -62,20 +65,20 @@ unfolding FillNumbers fill_of placed_for answer_number one_of either when◌then
 fill_numbers «data» blocks places n e = go (eqb (length blocks % 2) 0) (records_from «data» blocks 0) refl e
   where
     -- a number of 41 is in the list, and so is one of the two that pairs are refused with
-    last : 41 ≡ n → one_of (11 ∷ 12 ∷ 41 ∷ []) n ≡ true
-    last q = subst (λ (m : ℕ). one_of (11 ∷ 12 ∷ 41 ∷ []) m ≡ true) q refl
+    last : refusal.BlocksRoom ≡ n → one_of (11 ∷ 12 ∷ 41 ∷ []) (refusal_number n) ≡ true
+    last q = subst (λ (m : Refusal). one_of (11 ∷ 12 ∷ 41 ∷ []) (refusal_number m) ≡ true) q refl
 
-    more : one_of (11 ∷ 12 ∷ []) n ≡ true → one_of (11 ∷ 12 ∷ 41 ∷ []) n ≡ true
-    more q = pairs_number (eqb n 11) (eqb n 12) (eqb n 41) q
+    more : one_of (11 ∷ 12 ∷ []) (refusal_number n) ≡ true → one_of (11 ∷ 12 ∷ 41 ∷ []) (refusal_number n) ≡ true
+    more q = pairs_number (eqb (refusal_number n) 11) (eqb (refusal_number n) 12) (eqb (refusal_number n) 41) q
 
-    room : (rs : List BlockRecord) (b : Bool) → (when b then given rs else refused 41) ≡ refused n → one_of (11 ∷ 12 ∷ 41 ∷ []) n ≡ true
-    room rs true x = absurd (let z : ◌≡◌ {A = ℕ} 0 1 = cc in omega arith)
-    room rs false x = last (cc)
+    room : (rs : List BlockRecord) (b : Bool) → (when b then Ok rs else Err refusal.BlocksRoom) ≡ Err n → one_of (11 ∷ 12 ∷ 41 ∷ []) (refusal_number n) ≡ true
+    room rs true x = ok_refused x
+    room rs false x = last (same_refusal x)
 
-    go : (b : Bool) (a : Answer (List BlockRecord)) → records_from «data» blocks 0 ≡ a → (when b then placed_for places a else refused 11) ≡ refused n → one_of (11 ∷ 12 ∷ 41 ∷ []) n ≡ true
-    go true (given rs) a x = room rs (leb (length rs) places) x
-    go true (refused k) a x = more (refuses_one (records_from «data» blocks 0) (records_refuse «data» blocks 0) n (a ∙ x))
-    go false a p x = let z : 11 ≡ n = cc in subst (λ (m : ℕ). one_of (11 ∷ 12 ∷ 41 ∷ []) m ≡ true) z refl
+    go : (b : Bool) (a : Result (List BlockRecord) Refusal) → records_from «data» blocks 0 ≡ a → (when b then placed_for places a else Err refusal.BlockList) ≡ Err n → one_of (11 ∷ 12 ∷ 41 ∷ []) (refusal_number n) ≡ true
+    go true (Ok rs) a x = room rs (leb (length rs) places) x
+    go true (Err k) a x = more (refuses_one (records_from «data» blocks 0) (records_refuse «data» blocks 0) n (a ∙ x))
+    go false a p x = subst (λ (m : Refusal). one_of (11 ∷ 12 ∷ 41 ∷ []) (refusal_number m) ≡ true) (same_refusal x) refl
 
 -- ---- a pair's offset finds the pair
 

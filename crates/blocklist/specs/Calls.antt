@@ -1,11 +1,12 @@
 -- What the entries `kiban_fill_blocks` and `kiban_find_block` return and leave, in plain terms. A call is what its entry was lent, its result
 -- and what it left, in the words of its contract (crates/kiban/src/lib.rt).
 use Rattle.std.specs.Prelude.{◌≡◌, List, ◌↔◌, ℕ, zero, suc, ◌+◌, ◌*◌, ◌%◌, ◌<◌, ◌≤◌, length, get_or}
+use Rattle.refusal.specs.Refusal.{answer_number}
 use Rattle.block.specs.declared.BlockMeta.{BlockMeta}
 use Rattle.block.specs.Verify.{SoundBlock}
 use Rattle.opening.specs.Open.{block_bytes}
 use Rattle.blocks.specs.declared.BlockRecord.{BlockRecord}
-use Rattle.blocks.specs.Blocks.{fill_of, filled_read, filled_number, filled_count, filled_places, find_of, found_place}
+use Rattle.blocks.specs.Blocks.{fill_of, filled_read, filled_count, filled_places, find_of, found_place}
 use Rattle.blocklist.specs.Promises.{at_place, FilledList, Lowest}
 
 -- ---- calls
@@ -19,7 +20,7 @@ pub record FillCall : Type 0 where
   pub result : ℕ
   pub after : List BlockRecord
   pub count_after : ℕ
-  pub returns : result ≡ filled_number (filled_read (fill_of backing blocks (length before)))
+  pub returns : result ≡ answer_number (filled_read (fill_of backing blocks (length before)))
   pub leaves : after ≡ filled_places (fill_of backing blocks (length before)) before
   pub leaves_count : count_after ≡ filled_count (filled_read (fill_of backing blocks (length before))) count
 

@@ -1,13 +1,13 @@
 -- What filling a list of block records promises, and what finding in it does, in plain terms.
-use Rattle.std.specs.Prelude.{◌≡◌, List, [], ◌∷◌, true, ◌↔◌, ℕ, ◌+◌, ◌*◌, ◌<◌, ◌≤◌, length, get_or, take, drop}
-use Rattle.num.specs.Answer.{given, refused}
+use Rattle.std.specs.Prelude.{◌≡◌, List, [], ◌∷◌, true, ◌↔◌, ℕ, ◌+◌, ◌*◌, ◌<◌, ◌≤◌, length, get_or, take, drop, Ok, Err, Some, None}
+use Rattle.refusal.specs.declared.Refusal.{Refusal}
+use Rattle.refusal.specs.declared.Refusal.TheVariants as refusal
+use Rattle.refusal.specs.Refusal.{refusal_number}
 use Rattle.num.specs.Choice.{one_of}
 use Rattle.block.specs.declared.BlockMeta.{BlockMeta}
 use Rattle.block.specs.Verify.{SoundBlock}
 use Rattle.opening.specs.Open.{block_bytes}
 use Rattle.blocks.specs.declared.BlockRecord.{BlockRecord}
-use Rattle.blocks.specs.declared.Filled.TheVariants.{Wrote, Refused}
-use Rattle.blocks.specs.declared.FoundBlock.TheVariants.{At, Absent}
 use Rattle.blocks.specs.Blocks.{fill_of, filled_read, filled_places, find_of, no_record}
 
 -- the record at a place
@@ -36,7 +36,7 @@ pub record PairRecords («data» blocks : List ℕ) (at : ℕ) (rs : List BlockR
 
 -- filling gives exactly the records of the pairs that pass 11 and 12, if there is a place for each (41)
 unfoldable pub FillsExactly : Type 0
-FillsExactly = («data» blocks : List ℕ) (places : ℕ) (rs : List BlockRecord) → (fill_of «data» blocks places ≡ given rs) ↔ (PairRecords «data» blocks 0 rs × (length rs ≤ places))
+FillsExactly = («data» blocks : List ℕ) (places : ℕ) (rs : List BlockRecord) → (fill_of «data» blocks places ≡ Ok rs) ↔ (PairRecords «data» blocks 0 rs × (length rs ≤ places))
 
 -- the places behind a fill that wrote n records: each of the first n has its pair's record, each further one what stood there
 pub record FilledList («data» blocks : List ℕ) (n : ℕ) (before after : List BlockRecord) : Type 0 where
@@ -48,27 +48,27 @@ pub record FilledList («data» blocks : List ℕ) (n : ℕ) (before after : Lis
 
 -- a fill that wrote leaves the places so
 unfoldable pub FillsPlaces : Type 0
-FillsPlaces = («data» blocks : List ℕ) (n : ℕ) (before : List BlockRecord) → filled_read (fill_of «data» blocks (length before)) ≡ Wrote n
+FillsPlaces = («data» blocks : List ℕ) (n : ℕ) (before : List BlockRecord) → filled_read (fill_of «data» blocks (length before)) ≡ Ok n
     → FilledList «data» blocks n before (filled_places (fill_of «data» blocks (length before)) before)
 
 -- a refusal leaves every place as it was
 unfoldable pub RefusalLeaves : Type 0
-RefusalLeaves = («data» blocks : List ℕ) (n : ℕ) (before : List BlockRecord) → filled_read (fill_of «data» blocks (length before)) ≡ Refused n
+RefusalLeaves = («data» blocks : List ℕ) (n : Refusal) (before : List BlockRecord) → filled_read (fill_of «data» blocks (length before)) ≡ Err n
     → filled_places (fill_of «data» blocks (length before)) before ≡ before
 
 -- 41 is said only of pairs that all pass 11 and 12, and are more than the places
 unfoldable pub PlacesAskedLast : Type 0
-PlacesAskedLast = («data» blocks : List ℕ) (places : ℕ) → fill_of «data» blocks places ≡ refused 41
+PlacesAskedLast = («data» blocks : List ℕ) (places : ℕ) → fill_of «data» blocks places ≡ Err refusal.BlocksRoom
     → (rs : List BlockRecord) × PairRecords «data» blocks 0 rs × (places < length rs)
 
 -- another refusal is the same for any number of places
 unfoldable pub PairsAskedFirst : Type 0
-PairsAskedFirst = («data» blocks : List ℕ) (places n : ℕ) → fill_of «data» blocks places ≡ refused n → (n ≡ 41 → ⊥)
-    → (others : ℕ) → fill_of «data» blocks others ≡ refused n
+PairsAskedFirst = («data» blocks : List ℕ) (places : ℕ) (n : Refusal) → fill_of «data» blocks places ≡ Err n → (n ≡ refusal.BlocksRoom → ⊥)
+    → (others : ℕ) → fill_of «data» blocks others ≡ Err n
 
 -- a refusal has one of filling's own numbers
 unfoldable pub FillNumbers : Type 0
-FillNumbers = («data» blocks : List ℕ) (places n : ℕ) → fill_of «data» blocks places ≡ refused n → one_of (11 ∷ 12 ∷ 41 ∷ []) n ≡ true
+FillNumbers = («data» blocks : List ℕ) (places : ℕ) (n : Refusal) → fill_of «data» blocks places ≡ Err n → one_of (11 ∷ 12 ∷ 41 ∷ []) (refusal_number n) ≡ true
 
 -- ---- finding
 
@@ -80,14 +80,14 @@ pub record Lowest (rs : List BlockRecord) (offset i : ℕ) : Type 0 where
 
 -- the lowest place with the offset is found, in any list
 unfoldable pub FindsLowest : Type 0
-FindsLowest = (rs : List BlockRecord) (offset i : ℕ) → (find_of rs offset ≡ At i) ↔ Lowest rs offset i
+FindsLowest = (rs : List BlockRecord) (offset i : ℕ) → (find_of rs offset ≡ Some i) ↔ Lowest rs offset i
 
 -- none is found exactly if no record has the offset
 unfoldable pub FindsNone : Type 0
-FindsNone = (rs : List BlockRecord) (offset : ℕ) → (find_of rs offset ≡ Absent) ↔ ((i : ℕ) → i < length rs → (at_place rs i).offset ≡ offset → ⊥)
+FindsNone = (rs : List BlockRecord) (offset : ℕ) → (find_of rs offset ≡ None) ↔ ((i : ℕ) → i < length rs → (at_place rs i).offset ≡ offset → ⊥)
 
 -- behind a fill that wrote n records, in any part of the places that holds a pair's, the offset of that pair finds it
 unfoldable pub FindsPairs : Type 0
-FindsPairs = («data» blocks : List ℕ) (n : ℕ) (before : List BlockRecord) → filled_read (fill_of «data» blocks (length before)) ≡ Wrote n
+FindsPairs = («data» blocks : List ℕ) (n : ℕ) (before : List BlockRecord) → filled_read (fill_of «data» blocks (length before)) ≡ Ok n
     → (from count i : ℕ) → from + count ≤ length before → i < count → from + i < n
-    → find_of (take count (drop from (filled_places (fill_of «data» blocks (length before)) before))) (get_or blocks (2 * (from + i)) 0) ≡ At i
+    → find_of (take count (drop from (filled_places (fill_of «data» blocks (length before)) before))) (get_or blocks (2 * (from + i)) 0) ≡ Some i

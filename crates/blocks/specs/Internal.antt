@@ -1,17 +1,15 @@
 -- Not on the reading path: what the contracts of private functions speak of.
-use Rattle.std.specs.Prelude.{ℕ, ◌+◌, ◌*◌, ◌<◌, ◌≤◌, List, [], length, get_or}
-use Rattle.num.specs.Answer.{Answer, given, refused}
+use Rattle.std.specs.Prelude.{ℕ, ◌+◌, ◌*◌, ◌<◌, ◌≤◌, List, [], length, get_or, Result, Ok, Err}
+use Rattle.refusal.specs.declared.Refusal.{Refusal}
 use Rattle.block.specs.Verify.{meta_of, SoundBlock}
 use Rattle.opening.specs.Open.{block_bytes}
 use Rattle.blocks.specs.declared.BlockRecord.{BlockRecord}
-use Rattle.blocks.specs.declared.Filled.{Filled}
-use Rattle.blocks.specs.declared.Filled.TheVariants.{Wrote, Refused}
 use Rattle.blocks.specs.Blocks.{record_value}
 
--- the number of the question that is answered with no, 0 if none is
-unfoldable pub answer_number : {A : Type 0} → Answer A → ℕ
-answer_number (given a) = 0
-answer_number (refused n) = n
+-- an answer without what it gives
+unfoldable pub asked_of : {A : Type 0} → Result A Refusal → Result (Unit {0}) Refusal
+asked_of (Ok a) = Ok tt
+asked_of (Err n) = Err n
 
 -- offset and length of a pair
 unfoldable pub offset_at : List ℕ → ℕ → ℕ
@@ -33,11 +31,7 @@ pub record Passed («data» blocks : List ℕ) (i : ℕ) : Type 0 where
   pub inside : offset_at blocks i + len_at blocks i ≤ length «data»
   pub sound : SoundBlock (bytes_at «data» blocks i) (meta_of (bytes_at «data» blocks i))
 
--- the records that filling writes, and their number
-unfoldable pub written_of : Answer (List BlockRecord) → List BlockRecord
-written_of (given rs) = rs
-written_of (refused n) = []
-
-abbrev pub written_in : Filled → ℕ
-written_in (Wrote n) = n
-written_in (Refused n) = 0
+-- the records that filling writes
+unfoldable pub written_of : Result (List BlockRecord) Refusal → List BlockRecord
+written_of (Ok rs) = rs
+written_of (Err n) = []

@@ -1,16 +1,17 @@
 // A lent list of block records: filled from the pairs of a block list, and searched by offset.
 #![tactic(auto)]
 
-ghost use Rattle.std.specs.Prelude.{◌≡◌, true, ◌%◌, ◌≤◌, length};
-ghost use Rattle.crc32.specs.Table.{is_table};
-ghost use Rattle.blocks.specs.Blocks.{pair_record, records_from, fill_of, filled_read, filled_number, filled_count, filled_places, find_of, found_place};
-ghost use Rattle.blocks.specs.Internal.{answer_number, record_at, Passed, written_in};
+ghost use Rattle.std.specs.Prelude.{◌≡◌, ◌%◌, ◌≤◌, length};
+ghost use Rattle.refusal.specs.Refusal.{answer_number};
+ghost use Rattle.blocks.specs.Blocks.{pair_record, records_from, fill_of, filled_read, filled_count, filled_places, find_of, found_place};
+ghost use Rattle.blocks.specs.Internal.{asked_of, record_at, Passed};
 
-use block::Verified;
+use num::LittleEndian;
+use refusal::{Refusal, ask};
 
 // A block's pair of the list, and where its entries end, where its restart offsets start, and how many they are.
 #[repr(C)]
-#[derive(Clone, Copy)]
+#[derive(Clone, Copy, Debug, PartialEq, Eq)]
 pub struct BlockRecord {
     pub offset: u64,
     pub len: u64,
@@ -19,83 +20,47 @@ pub struct BlockRecord {
     pub num_restarts: u64,
 }
 
-// How many records were written, or the number of the question that failed.
-#[derive(Clone, Copy)]
-pub enum Filled {
-    Wrote(usize),
-    Refused(u64),
-}
-
-// A place counted from the start of the part lent.
-#[derive(Clone, Copy)]
-pub enum FoundBlock {
-    At(usize),
-    Absent,
-}
-
-// Questions 11 and 12 of a pair behind a place of the data: 0, or the number of the one that failed.
-fn pair_asked(table: &[[u32; 256]; 8], data: &[u8], at: usize, offset: usize, len: usize) -> u64
-    requires { (is_table table.now ≡ true) × (at ≤ length «data».now) }
-    ensures { result ≡ answer_number (pair_record «data».now at offset len) }
+// Questions 11 and 12 of a pair behind a place of the data.
+#[tactic(auto, using(opening::proofs::Pairs::fits_inside), unfolding(crate::specs::Blocks::pair_record, crate::specs::Blocks::record_for, crate::specs::Internal::asked_of, num::specs::Choice::choice_defs))]
+fn pair_asked(data: &[u8], at: usize, offset: usize, len: usize) -> Result<(), Refusal>
+    requires { at ≤ length «data».now }
+    ensures { result ≡ asked_of (pair_record «data».now at offset len) }
 {
-    if !opening::pair_fits(data.len(), at, offset, len) {
-        return 11;
-    }
+    ask(
+        opening::pair_fits(data.len(), at, offset, len),
+        Refusal::BlockList,
+    )?;
     let end = offset + len;
-    let verified = block::verify(table, &data[offset..end]);
-    match verified {
-        Verified::Sound(_) => 0,
-        Verified::Unsound => 12,
-    }
+    block::verify(&data[offset..end])?;
+    Ok(())
 }
 
 // Questions 11 and 12 of the pairs, of which the list is made.
-fn pairs_asked(table: &[[u32; 256]; 8], data: &[u8], blocks: &[u64]) -> u64
-    requires { (is_table table.now ≡ true) × (length blocks.now % 2 ≡ 0) }
-    ensures { result ≡ answer_number (records_from «data».now blocks.now 0) }
+fn pairs_asked(data: &[u8], blocks: &[u64]) -> Result<(), Refusal>
+    requires { length blocks.now % 2 ≡ 0 }
+    ensures { result ≡ asked_of (records_from «data».now blocks.now 0) }
 {
+    let (pairs, _) = blocks.as_chunks::<2>();
     let mut at = 0;
-    let mut i = 0;
-    while i < blocks.len() {
-        let offset = blocks[i] as usize;
-        let len = blocks[i + 1] as usize;
-        let failed = pair_asked(table, data, at, offset, len);
-        if failed != 0 {
-            return failed;
-        }
+    for pair in pairs {
+        let [offset, len] = *pair;
+        let (offset, len) = (offset as usize, len as usize);
+        pair_asked(data, at, offset, len)?;
         at = offset + len;
-        i += 2;
     }
-    0
+    Ok(())
 }
 
-// Evenness, 11 and 12 of all pairs, then 41.
-fn asked(data: &[u8], blocks: &[u64], places: usize) -> Filled
+// Evenness, 11 and 12 of all pairs, then 41: how many records there are to write.
+#[tactic(auto, unfolding(crate::specs::Blocks::fill_of, crate::specs::Blocks::filled_read, num::specs::Choice::choice_defs))]
+fn asked(data: &[u8], blocks: &[u64], places: usize) -> Result<usize, Refusal>
     ensures { result ≡ filled_read (fill_of «data».now blocks.now places) }
 {
-    if blocks.len() % 2 != 0 {
-        return Filled::Refused(11);
-    }
-    let table = crc32::slices();
-    let failed = pairs_asked(&table, data, blocks);
-    if failed != 0 {
-        return Filled::Refused(failed);
-    }
+    ask(blocks.len() % 2 == 0, Refusal::BlockList)?;
+    pairs_asked(data, blocks)?;
     let pairs = blocks.len() / 2;
-    if places < pairs {
-        return Filled::Refused(41);
-    }
-    Filled::Wrote(pairs)
-}
-
-// How many records there are to write.
-fn written(filled: Filled) -> usize
-    ensures { result ≡ written_in filled }
-{
-    match filled {
-        Filled::Wrote(n) => n,
-        Filled::Refused(_) => 0,
-    }
+    ask(pairs <= places, Refusal::BlocksRoom)?;
+    Ok(pairs)
 }
 
 // The record of a pair whose block passed 12: its three numbers follow from the one before the trailer, so nothing is verified again.
@@ -106,7 +71,7 @@ fn record_of(data: &[u8], blocks: &[u64], i: usize) -> BlockRecord
     let offset = blocks[2 * i];
     let len = blocks[2 * i + 1];
     let behind = len - 9;
-    let num_restarts = num::u32_at(data, (offset + behind) as usize) as u64;
+    let num_restarts = u32::read(data, (offset + behind) as usize) as u64;
     let entries_end = behind - 4 * num_restarts;
     BlockRecord {
         offset,
@@ -118,53 +83,41 @@ fn record_of(data: &[u8], blocks: &[u64], i: usize) -> BlockRecord
 }
 
 // Asks 11 and 12 of all pairs, then 41, and writes a record per pair. The records behind them stay as they were, and on a refusal all do.
-pub fn fill(data: &[u8], blocks: &[u64], records: &mut [BlockRecord]) -> Filled
+pub fn fill(data: &[u8], blocks: &[u64], records: &mut [BlockRecord]) -> Result<usize, Refusal>
     ensures { (result ≡ filled_read (fill_of «data».now blocks.now (length records.old)))
         × (records.new ≡ filled_places (fill_of «data».now blocks.now (length records.old)) records.old) }
 {
-    let filled = asked(data, blocks, records.len());
-    let count = written(filled);
-    let mut i = 0;
-    while i < count {
+    let count = asked(data, blocks, records.len())?;
+    for i in 0..count {
         records[i] = record_of(data, blocks, i);
-        i += 1;
     }
-    filled
+    Ok(count)
 }
 
 // The number of an answer. How many records were written goes to `count`, which a refusal leaves as it was.
-pub fn filled_number(filled: Filled, count: &mut u64) -> u64
-    ensures { (result ≡ filled_number filled) × (count.new ≡ filled_count filled count.old) }
+#[tactic(auto, unfolding(refusal::specs::Refusal::answer_number))]
+pub fn filled_number(filled: Result<usize, Refusal>, count: &mut u64) -> u64
+    ensures { (result ≡ answer_number filled) × (count.new ≡ filled_count filled count.old) }
 {
     match filled {
-        Filled::Wrote(n) => {
+        Ok(n) => {
             *count = n as u64;
             0
         }
-        Filled::Refused(n) => n,
+        Err(refusal) => refusal.number(),
     }
 }
 
-// The lowest place with that offset in the part lent.
-pub fn find(records: &[BlockRecord], offset: u64) -> FoundBlock
+// The lowest place with that offset in the part lent, counted from its start.
+pub fn find(records: &[BlockRecord], offset: u64) -> Option<usize>
     ensures { result ≡ find_of records.now offset }
 {
-    let mut i = 0;
-    while i < records.len() {
-        if records[i].offset == offset {
-            return FoundBlock::At(i);
-        }
-        i += 1;
-    }
-    FoundBlock::Absent
+    records.iter().position(|r| r.offset == offset)
 }
 
 // The place as a number, for a list of a length.
-pub fn found_place(found: FoundBlock, size: usize) -> u64
+pub fn found_place(found: Option<usize>, size: usize) -> u64
     ensures { result ≡ found_place size found }
 {
-    match found {
-        FoundBlock::At(i) => i as u64,
-        FoundBlock::Absent => size as u64,
-    }
+    found.unwrap_or(size) as u64
 }

@@ -8,24 +8,20 @@ use Prim.Native.Nat.{ℕ, ◌+◌, ◌*◌, ◌/◌, ◌%◌, ◌≤◌}
 use native.Mathlib.Omega.{arith}
 use lib.Dec.{eqb}
 use lib.ListN.{length}
-use borrow.Author.Tests.{eqb-true, eqb-false, eq-eqb, ne_eqb}
-use Rattle.num.specs.Answer.{given}
-use Rattle.num.proofs.Choice.{if_true, if_false}
-use Rattle.crc32.specs.Table.{is_table}
-use Rattle.sstable.specs.declared.Trailer.{Trailer}
-use Rattle.sstable.specs.declared.Trailer.TheVariants.{Intact, UnknownType, ChecksumMismatch}
+use borrow.Author.Tests.{eqb-true, eqb-false, eq-eqb}
+use Rattle.std.specs.Prelude.{Result, Ok, Err}
+use Rattle.refusal.specs.declared.Refusal.{Refusal}
+use Rattle.num.proofs.Choice.{if_true}
+use Rattle.refusal.proofs.Asked.{refused_ok}
 use Rattle.sstable.specs.Trailer.{trailer_of}
 use Rattle.encoding.specs.Encoding.{scan_header_len, buckets_of, arena_start_of}
 use Rattle.header.specs.declared.Opened.{Opened}
-use Rattle.header.specs.declared.HeaderRead.TheVariants.{Accepted, Refused}
 use Rattle.header.specs.Header.{header_of, arena_end_of}
 use Rattle.header.specs.Facts.{Header, from_plain}
 use Rattle.header.proofs.Headers.{header_facts}
 use Rattle.header.proofs.Bounds.{arena_start, scan_part_lem, scan_end, arena_end}
 use Rattle.arena.specs.Internal.{Readable, Inside}
 use Rattle.validate.specs.declared.Carried.{Carried}
-use Rattle.opening.specs.declared.BlocksOpened.{BlocksOpened}
-use Rattle.opening.specs.declared.BlocksOpened.TheVariants as blocks-opened
 use Rattle.opening.specs.Open.{pilots_inside, start_at, start_of, pairs_from, ends_together, prefixes_counted, end_for, inputs_of, contents_of, trailed_header, checked_header_of}
 use Rattle.validate.specs.Internal.{inputs_with, progress_in, Ready}
 use Rattle.opening.specs.Internal.{ended_for}
@@ -39,7 +35,7 @@ scan_header_inside s o r n = go r.scan_inside
     go (inl e) = absurd (n e)
     go (inr h) = omega arith
 
-module _ (s : List ℕ) (o : Opened) (e : header_of s ≡ Accepted o) where
+module _ (s : List ℕ) (o : Opened) (e : header_of s ≡ Ok o) where
   facts : Header s o
   facts = header_facts s o e
 
@@ -88,13 +84,12 @@ module _ (s : List ℕ) (o : Opened) (e : header_of s ≡ Accepted o) where
         }
 
     -- all that the walk counts on holds at its start
-    pub start_ready : (tables : List (List ℕ)) (scratch : List ℕ) (end : ℕ) (w : Carried) → is_table tables ≡ true → end ≡ arena_end_of s o
-        → w ≡ record { key_len = 0; previous_len = 0; cursor = start_at o } → Ready tables s o end (length scratch / 2) scratch w
-    start_ready tables scratch end w t q z =
-        subst⁻¹ (λ (n : ℕ). Ready tables s o n (length scratch / 2) scratch w) q
-        (subst⁻¹ (Ready tables s o (arena_end_of s o) (length scratch / 2) scratch) z
+    pub start_ready : (scratch : List ℕ) (end : ℕ) (w : Carried) → end ≡ arena_end_of s o
+        → w ≡ record { key_len = 0; previous_len = 0; cursor = start_at o } → Ready s o end (length scratch / 2) scratch w
+    start_ready scratch end w q z =
+        subst⁻¹ (λ (n : ℕ). Ready s o n (length scratch / 2) scratch w) q
+        (subst⁻¹ (Ready s o (arena_end_of s o) (length scratch / 2) scratch) z
         (record {
-          table = t;
           readable = accepted_readable;
           inside = start_inside;
           halves = omega arith;
@@ -104,19 +99,9 @@ module _ (s : List ℕ) (o : Opened) (e : header_of s ≡ Accepted o) where
 -- ---- the answers of questions 10 to 23
 
 module _ (s «data» blocks : List ℕ) (scratch : ℕ) (o : Opened) where
-  -- question 10 fails
-  pub contents_10 : pilots_inside s o ≡ false → Refused 10 ≡ contents_of s «data» blocks scratch o
-  unfolding contents_of
-  contents_10 p = sym (if_false _ _ _ p)
-
   module _ (p : pilots_inside s o ≡ true) where
-    -- the list is odd
-    pub contents_odd : (length blocks % 2 ≡ 0 → ⊥) → Refused 11 ≡ contents_of s «data» blocks scratch o
-    unfolding contents_of
-    contents_odd n = sym (if_true _ _ _ p ∙ if_false _ _ _ (ne_eqb _ _ n))
-
     module _ (v : length blocks % 2 ≡ 0) (end : ℕ) (q : end ≡ arena_end_of s o) (w : Carried) (z : w ≡ record { key_len = 0; previous_len = 0; cursor = start_at o })
-        (area left : List ℕ) (r : BlocksOpened) (e : ended_for (scratch / 2) left r ≡ pairs_from (inputs_with s «data» o end (scratch / 2)) blocks 0 (progress_in (scratch / 2) area w))
+        (area left : List ℕ) (r : Result (ℕ × Carried) Refusal) (e : ended_for (scratch / 2) left r ≡ pairs_from (inputs_with s «data» o end (scratch / 2)) blocks 0 (progress_in (scratch / 2) area w))
       where
         walked : end_for (inputs_of s «data» scratch o) (ended_for (scratch / 2) left r) ≡ contents_of s «data» blocks scratch o
         unfolding contents_of inputs_of start_of progress_in
@@ -125,25 +110,24 @@ module _ (s «data» blocks : List ℕ) (scratch : ℕ) (o : Opened) where
             ∙ sym (if_true _ _ _ p ∙ if_true _ _ _ (eq-eqb _ _ v))
 
         -- the walk refuses
-        pub contents_refused : (n : ℕ) → r ≡ blocks-opened.Refused n → Refused n ≡ contents_of s «data» blocks scratch o
+        pub contents_refused : (n : Refusal) → r ≡ Err n → Err n ≡ contents_of s «data» blocks scratch o
         unfolding end_for ended_for
-        contents_refused n x = sym (ap (λ (y : BlocksOpened). end_for (inputs_of s «data» scratch o) (ended_for (scratch / 2) left y)) x) ∙ walked
+        contents_refused n x = sym (ap (λ (y : Result (ℕ × Carried) Refusal). end_for (inputs_of s «data» scratch o) (ended_for (scratch / 2) left y)) x) ∙ walked
 
         -- the walk ends
-        pub contents_ended : (at : ℕ) (after : Carried) → r ≡ blocks-opened.Ended at after
-            → end_for (inputs_with s «data» o end 0) (given (record { at = at; progress = record { previous = []; cursor = after.cursor } })) ≡ contents_of s «data» blocks scratch o
+        pub contents_ended : (at : ℕ) (after : Carried) → r ≡ Ok (at, after)
+            → end_for (inputs_with s «data» o end 0) (Ok (record { at = at; progress = record { previous = []; cursor = after.cursor } })) ≡ contents_of s «data» blocks scratch o
         unfolding end_for ends_together prefixes_counted ended_for inputs_of progress_in
         contents_ended at after x =
-            ap (λ (n : ℕ). end_for (inputs_with s «data» o n 0) (given (record { at = at; progress = record { previous = []; cursor = after.cursor } }))) q
-            ∙ sym (ap (λ (y : BlocksOpened). end_for (inputs_of s «data» scratch o) (ended_for (scratch / 2) left y)) x)
+            ap (λ (n : ℕ). end_for (inputs_with s «data» o n 0) (Ok (record { at = at; progress = record { previous = []; cursor = after.cursor } }))) q
+            ∙ sym (ap (λ (y : Result (ℕ × Carried) Refusal). end_for (inputs_of s «data» scratch o) (ended_for (scratch / 2) left y)) x)
             ∙ walked
 
 -- a header that passes questions 1 to 6 passes 3 to 6
-pub checked_header : (s : List ℕ) (o : Opened) → checked_header_of s ≡ Accepted o → header_of s ≡ Accepted o
+pub checked_header : (s : List ℕ) (o : Opened) → checked_header_of s ≡ Ok o → header_of s ≡ Ok o
 unfolding checked_header_of trailed_header
 checked_header s o = go (trailer_of s)
   where
-    go : (r : Trailer) → trailed_header s r ≡ Accepted o → header_of s ≡ Accepted o
-    go UnknownType e = absurd (let z : ◌≡◌ {A = ℕ} 0 1 = cc in omega arith)
-    go ChecksumMismatch e = absurd (let z : ◌≡◌ {A = ℕ} 0 1 = cc in omega arith)
-    go Intact e = e
+    go : (r : Result (Unit {0}) Refusal) → trailed_header s r ≡ Ok o → header_of s ≡ Ok o
+    go (Err n) e = refused_ok e
+    go (Ok u) e = e

@@ -1,33 +1,34 @@
 -- The pairs of the block list one after another: questions 11 and 12.
 -- Assumes nothing.
-use mathlib.Core.Path.{◌≡◌, refl, sym, ap, ◌∙◌, subst}
+use mathlib.Core.Path.{◌≡◌, refl, sym, ap, ◌∙◌}
 use mathlib.Core.List.{List, [], ◌∷◌}
 use mathlib.Core.Bool.{Bool, true, false}
-use Prim.Native.Nat.{ℕ, suc, ◌+◌, ◌-◌, ◌%◌, ◌<◌, ◌≤◌}
+use Prim.Native.Nat.{ℕ, zero, suc, ◌+◌, ◌*◌, ◌/◌, ◌-◌, ◌%◌, ◌<◌, ◌≤◌}
 use native.Mathlib.Omega.{arith}
 use lib.Dec.{leb}
 use lib.ListN.{length, get_or, take, drop, drop_of_length-le}
 use lib.Seq.{drop-cons}
 use borrow.Author.Tests.{leb-true, leb-false, le-leb, lt-leb, eq-eqb}
-use Rattle.num.specs.Answer.{Answer, given, refused}
+use Rattle.std.specs.Prelude.{Result, Ok, Err}
+use Rattle.refusal.specs.declared.Refusal.{Refusal}
+use Rattle.refusal.specs.declared.Refusal.TheVariants as refusal
 use Rattle.num.specs.Choice.{both}
 use Rattle.num.proofs.Choice.{both_true}
-use Rattle.num.proofs.Lists.{part_length}
+use Rattle.num.proofs.Lists.{part_length, part_at}
+use Rattle.std.specs.Simd.{first_chunks}
+use Rattle.std.proofs.lemmas.List.{drop-drop}
 use Rattle.block.specs.declared.BlockMeta.{BlockMeta}
-use Rattle.block.specs.declared.Verified.{Verified}
-use Rattle.block.specs.declared.Verified.TheVariants.{Sound, Unsound}
-use Rattle.block.specs.Verify.{verify_of, verified_number}
+use Rattle.refusal.proofs.Asked.{refused_ok}
+use Rattle.block.specs.Verify.{verify_of}
 use Rattle.block.specs.Walk.{WalkEnd, at_end, stopped, walk_at, records_of}
 use Rattle.block.proofs.Walk.{records_sound}
 use Rattle.block.proofs.Sound.{sound_exactly}
 use Rattle.arena.specs.Internal.{Readable, Inside}
 use Rattle.header.specs.declared.Opened.{Opened}
 use Rattle.validate.specs.declared.Carried.{Carried}
-use Rattle.validate.specs.declared.BlockOpened.{BlockOpened}
-use Rattle.validate.specs.declared.BlockOpened.TheVariants.{Passed, Refused}
 use Rattle.validate.specs.Walk.{Inputs, Progress, walk_ended, records_asked}
 use Rattle.opening.specs.Open.{PairsEnd, block_bytes, block_for, block_asked, pair_fits, pairs_from}
-use Rattle.validate.specs.Internal.{inputs_with, progress_in, Ready, BlockHeld, answer_for}
+use Rattle.validate.specs.Internal.{inputs_with, progress_in, Held, Ready}
 use Rattle.validate.proofs.Entries.{entries_inside}
 
 -- ---- one pair
@@ -54,63 +55,52 @@ pub part_inside : (l : List ℕ) (offset len : ℕ) → offset + len ≤ length 
 part_inside l offset len h = omega (arith, ap length (part_cut l offset len), part_length l offset len h)
 
 module _ (t : Inputs) (offset len : ℕ) (p : Progress) (raw : List ℕ) (z : raw ≡ take len (drop offset t.backing)) where
-  verified : (v : Verified) → verify_of raw ≡ v → block_for t offset p raw v ≡ block_asked t offset len p
+  verified : (v : Result BlockMeta Refusal) → verify_of raw ≡ v → block_for t offset p raw v ≡ block_asked t offset len p
   unfolding block_asked
   verified v e = ap (block_for t offset p raw) (sym e) ∙ ap (λ (l : List ℕ). block_for t offset p l (verify_of l)) z
 
   -- question 12 fails
-  pub pair_unsound : verify_of raw ≡ Unsound → refused 12 ≡ block_asked t offset len p
-  unfolding block_for verified_number
-  pair_unsound e = verified Unsound e
+  pub pair_unsound : (n : Refusal) → verify_of raw ≡ Err n → Err n ≡ block_asked t offset len p
+  unfolding block_for
+  pair_unsound n e = verified (Err n) e
 
   -- a sound block's records are asked
-  pub pair_sound : (m : BlockMeta) → verify_of raw ≡ Sound m → records_asked t offset p (walk_at raw m.entries_end 0 []) ≡ block_asked t offset len p
+  pub pair_sound : (m : BlockMeta) → verify_of raw ≡ Ok m → records_asked t offset p (walk_at raw m.entries_end 0 []) ≡ block_asked t offset len p
   unfolding block_for
-  pair_sound m e = ap (records_asked t offset p) (sym (records_sound raw m e)) ∙ verified (Sound m) e
+  pair_sound m e = ap (records_asked t offset p) (sym (records_sound raw m e)) ∙ verified (Ok m) e
 
 -- the entries of a sound block end in it
-pub sound_inside : (raw : List ℕ) (m : BlockMeta) → verify_of raw ≡ Sound m → m.entries_end ≤ length raw
+pub sound_inside : (raw : List ℕ) (m : BlockMeta) → verify_of raw ≡ Ok m → m.entries_end ≤ length raw
 sound_inside raw m e = omega (arith, ((sound_exactly raw m).0 e).fitting)
 
 -- a walk whose records are passed reached the end of the entries
-ended_given : (how : WalkEnd) (a : Answer Progress) (q : Progress) → walk_ended how a ≡ given q → a ≡ given q
+ended_given : (how : WalkEnd) (a : Result Progress Refusal) (q : Progress) → walk_ended how a ≡ Ok q → a ≡ Ok q
 unfolding walk_ended
-ended_given how (refused n) q e = absurd (let z : ◌≡◌ {A = ℕ} 0 1 = cc in omega arith)
-ended_given at_end (given p) q e = e
-ended_given stopped (given p) q e = absurd (let z : ◌≡◌ {A = ℕ} 0 1 = cc in omega arith)
+ended_given how (Err n) q e = refused_ok e
+ended_given at_end (Ok p) q e = e
+ended_given stopped (Ok p) q e = refused_ok e
 
 -- the cursor behind a pair lies in the arena
 pub pair_inside : (t : Inputs) (offset len : ℕ) (p q : Progress) → Readable t.section t.opened → Inside t.section t.opened t.end p.cursor
-    → block_asked t offset len p ≡ given q → Inside t.section t.opened t.end q.cursor
+    → block_asked t offset len p ≡ Ok q → Inside t.section t.opened t.end q.cursor
 unfolding block_asked block_for records_asked
 pair_inside t offset len p q r i e = go (verify_of (block_bytes t.backing offset len)) e
   where
-    go : (v : Verified) → block_for t offset p (block_bytes t.backing offset len) v ≡ given q → Inside t.section t.opened t.end q.cursor
-    go Unsound x = absurd (let z : ◌≡◌ {A = ℕ} 0 1 = cc in omega arith)
-    go (Sound m) x = entries_inside t r _ p q i (ended_given (records_of (block_bytes t.backing offset len)).ended _ q x)
+    go : (v : Result BlockMeta Refusal) → block_for t offset p (block_bytes t.backing offset len) v ≡ Ok q → Inside t.section t.opened t.end q.cursor
+    go (Err n) x = refused_ok x
+    go (Ok m) x = entries_inside t r _ p q i (ended_given (records_of (block_bytes t.backing offset len)).ended _ q x)
 
 -- what the walk counts on holds behind a pair
-module _ (tables : List (List ℕ)) (s «data» : List ℕ) (o : Opened) (end half offset len : ℕ) (scratch left : List ℕ) (w : Carried) (r : BlockOpened)
-    (ready : Ready tables s o end half scratch w) (kept : length left ≡ length scratch)
-    (e : answer_for half left r ≡ block_asked (inputs_with s «data» o end half) offset len (progress_in half scratch w)) (h : BlockHeld half r) where
-  pub pair_passed : (after : Carried) → r ≡ Passed after → block_asked (inputs_with s «data» o end half) offset len (progress_in half scratch w) ≡ given (progress_in half left after)
-  unfolding answer_for
-  pair_passed after q = sym e ∙ ap (answer_for half left) q
-
-  pub pair_refused : (n : ℕ) → r ≡ Refused n → block_asked (inputs_with s «data» o end half) offset len (progress_in half scratch w) ≡ refused n
-  unfolding answer_for
-  pair_refused n q = sym e ∙ ap (answer_for half left) q
-
-  pub ready_passed : (after : Carried) → r ≡ Passed after → Ready tables s o end half left after
-  unfolding progress_in
-  ready_passed after q =
-      record {
-        table = ready.table;
-        readable = ready.readable;
-        inside = pair_inside (inputs_with s «data» o end half) offset len (progress_in half scratch w) (progress_in half left after) ready.readable ready.inside (pair_passed after q);
-        halves = omega (arith, kept, ready.halves);
-        held = subst (BlockHeld half) q h;
-      }
+pub ready_passed : (s «data» : List ℕ) (o : Opened) (end half offset len : ℕ) (scratch left : List ℕ) (w after : Carried) → Ready s o end half scratch w → length left ≡ length scratch
+    → block_asked (inputs_with s «data» o end half) offset len (progress_in half scratch w) ≡ Ok (progress_in half left after) → Held half after → Ready s o end half left after
+unfolding progress_in
+ready_passed s «data» o end half offset len scratch left w after ready kept e h =
+    record {
+      readable = ready.readable;
+      inside = pair_inside (inputs_with s «data» o end half) offset len (progress_in half scratch w) (progress_in half left after) ready.readable ready.inside e;
+      halves = omega (arith, kept, ready.halves);
+      held = h;
+    }
 
 -- ---- the pairs from a place on
 
@@ -123,8 +113,29 @@ drop_pair blocks i h =
     ∙ ap (λ (l : List ℕ). get_or blocks i 0 ∷ l) (drop-cons blocks (i + 1) 0 h)
     ∙ ap (λ (k : ℕ). get_or blocks i 0 ∷ get_or blocks (i + 1) 0 ∷ drop k blocks) m
 
+-- the numbers of a list, two by two: pair k has numbers 2 k and 2 k + 1
+chunk_at : (n k : ℕ) (xs d : List ℕ) → k < n → get_or (first_chunks 2 n xs) k d ≡ take 2 (drop (2 * k) xs)
+chunk_at zero k xs d h = absurd (omega arith)
+chunk_at (suc n) zero xs d h = refl
+chunk_at (suc n) (suc k) xs d h =
+    let e : 2 + 2 * k ≡ 2 * suc k = omega arith in
+    chunk_at n k (drop 2 xs) d (omega arith) ∙ ap (take 2) (drop-drop (2 * k) 2 xs ∙ ap (λ (j : ℕ). drop j xs) e)
+
+pair_first : (blocks d : List ℕ) (k : ℕ) → k < length blocks / 2 → get_or (get_or (first_chunks 2 (length blocks / 2) blocks) k d) 0 0 ≡ get_or blocks (2 * k) 0
+pair_first blocks d k h =
+    let e : 2 * k + 0 ≡ 2 * k = omega arith in
+    ap (λ (l : List ℕ). get_or l 0 0) (chunk_at (length blocks / 2) k blocks d h) ∙ part_at blocks (2 * k) 2 0 0 (omega arith) ∙ ap (λ (j : ℕ). get_or blocks j 0) e
+
+pair_second : (blocks d : List ℕ) (k : ℕ) → k < length blocks / 2 → get_or (get_or (first_chunks 2 (length blocks / 2) blocks) k d) 1 0 ≡ get_or blocks (2 * k + 1) 0
+pair_second blocks d k h =
+    ap (λ (l : List ℕ). get_or l 1 0) (chunk_at (length blocks / 2) k blocks d h) ∙ part_at blocks (2 * k) 2 1 0 (omega arith)
+
+pub pair_drop : (blocks : List ℕ) (pairs : List (List ℕ)) (k : ℕ) → pairs ≡ first_chunks 2 (length blocks / 2) blocks → k < length blocks / 2
+    → drop (2 * k) blocks ≡ get_or (get_or pairs k []) 0 0 ∷ get_or (get_or pairs k []) 1 0 ∷ drop (2 * k + 2) blocks
+pair_drop blocks pairs k e h = rw (e, pair_first blocks [] k h, pair_second blocks [] k h) (drop_pair blocks (2 * k) (omega arith))
+
 -- from a pair on the walk answers this
-pub record Pairing (t : Inputs) (blocks : List ℕ) (answer : Answer PairsEnd) (i at : ℕ) (st : Progress) : Type 0 where
+pub record Pairing (t : Inputs) (blocks : List ℕ) (answer : Result PairsEnd Refusal) (i at : ℕ) (st : Progress) : Type 0 where
   pub even : i % 2 ≡ 0
   pub within : at ≤ length t.backing
   pub same : pairs_from t (drop i blocks) at st ≡ answer
@@ -134,47 +145,47 @@ module _ (t : Inputs) (blocks : List ℕ) where
   pairing_start st = record { even = refl; within = omega arith; same = refl }
 
   -- what follows question 11, and what follows the block
-  after_block : List ℕ → ℕ → Answer Progress → Answer PairsEnd
-  after_block pairs at a = elim a [ given after ↦ pairs_from t pairs at after | refused n ↦ refused n ]
+  after_block : List ℕ → ℕ → Result Progress Refusal → Result PairsEnd Refusal
+  after_block pairs at a = elim a [ Ok after ↦ pairs_from t pairs at after | Err n ↦ Err n ]
 
-  tested : List ℕ → ℕ → Answer Progress → Bool → Answer PairsEnd
-  tested pairs at a b = elim b [ true ↦ after_block pairs at a | false ↦ refused 11 ]
+  tested : List ℕ → ℕ → Result Progress Refusal → Bool → Result PairsEnd Refusal
+  tested pairs at a b = elim b [ true ↦ after_block pairs at a | false ↦ Err refusal.BlockList ]
 
-  module _ (answer : Answer PairsEnd) (i at : ℕ) (st : Progress) (p : Pairing t blocks answer i at st) where
-    pub pairing_done : length blocks ≤ i → given (record { at = at; progress = st }) ≡ answer
+  module _ (answer : Result PairsEnd Refusal) (i at : ℕ) (st : Progress) (p : Pairing t blocks answer i at st) where
+    pub pairing_done : length blocks ≤ i → Ok (record { at = at; progress = st }) ≡ answer
     unfolding pairs_from
     pairing_done h = sym (ap (λ (l : List ℕ). pairs_from t l at st) (drop_of_length-le blocks {i = i} h)) ∙ p.same
 
-    module _ (h : i + 1 < length blocks) where
-      from-pair : tested (drop (i + 2) blocks) (get_or blocks i 0 + get_or blocks (i + 1) 0) (block_asked t (get_or blocks i 0) (get_or blocks (i + 1) 0) st)
-          (pair_fits (length t.backing) at (get_or blocks i 0) (get_or blocks (i + 1) 0)) ≡ answer
+    module _ (offset len : ℕ) (h : drop i blocks ≡ offset ∷ len ∷ drop (i + 2) blocks) where
+      from-pair : tested (drop (i + 2) blocks) (offset + len) (block_asked t offset len st)
+          (pair_fits (length t.backing) at offset len) ≡ answer
       unfolding pairs_from tested after_block
-      from-pair = sym (ap (λ (l : List ℕ). pairs_from t l at st) (drop_pair blocks i h)) ∙ p.same
+      from-pair = sym (ap (λ (l : List ℕ). pairs_from t l at st) h) ∙ p.same
 
       -- question 11 fails
-      pub pairing_11 : pair_fits (length t.backing) at (get_or blocks i 0) (get_or blocks (i + 1) 0) ≡ false → refused 11 ≡ answer
+      pub pairing_11 : pair_fits (length t.backing) at offset len ≡ false → Err refusal.BlockList ≡ answer
       unfolding tested after_block
       pairing_11 e =
-          sym (ap (tested (drop (i + 2) blocks) (get_or blocks i 0 + get_or blocks (i + 1) 0) (block_asked t (get_or blocks i 0) (get_or blocks (i + 1) 0) st)) e) ∙ from-pair
+          sym (ap (tested (drop (i + 2) blocks) (offset + len) (block_asked t offset len st)) e) ∙ from-pair
 
-      module _ (e : pair_fits (length t.backing) at (get_or blocks i 0) (get_or blocks (i + 1) 0) ≡ true) where
-        from_block : after_block (drop (i + 2) blocks) (get_or blocks i 0 + get_or blocks (i + 1) 0) (block_asked t (get_or blocks i 0) (get_or blocks (i + 1) 0) st) ≡ answer
+      module _ (e : pair_fits (length t.backing) at offset len ≡ true) where
+        from_block : after_block (drop (i + 2) blocks) (offset + len) (block_asked t offset len st) ≡ answer
         unfolding tested
         from_block =
-            sym (ap (tested (drop (i + 2) blocks) (get_or blocks i 0 + get_or blocks (i + 1) 0) (block_asked t (get_or blocks i 0) (get_or blocks (i + 1) 0) st)) e) ∙ from-pair
+            sym (ap (tested (drop (i + 2) blocks) (offset + len) (block_asked t offset len st)) e) ∙ from-pair
 
         -- a block is refused
-        pub pairing_refused : (n : ℕ) → block_asked t (get_or blocks i 0) (get_or blocks (i + 1) 0) st ≡ refused n → refused n ≡ answer
+        pub pairing_refused : (n : Refusal) → block_asked t offset len st ≡ Err n → Err n ≡ answer
         unfolding after_block
-        pairing_refused n q = sym (ap (after_block (drop (i + 2) blocks) (get_or blocks i 0 + get_or blocks (i + 1) 0)) q) ∙ from_block
+        pairing_refused n q = sym (ap (after_block (drop (i + 2) blocks) (offset + len)) q) ∙ from_block
 
         -- a block is passed
-        pub pairing_more : (after : Progress) → block_asked t (get_or blocks i 0) (get_or blocks (i + 1) 0) st ≡ given after
-            → Pairing t blocks answer (i + 2) (get_or blocks i 0 + get_or blocks (i + 1) 0) after
+        pub pairing_more : (next : ℕ) (after : Progress) → i + 2 ≡ next → block_asked t offset len st ≡ Ok after
+            → Pairing t blocks answer next (offset + len) after
         unfolding after_block
-        pairing_more after q =
+        pairing_more next after n q =
             record {
               even = omega (arith, p.even);
-              within = fits_inside (length t.backing) at (get_or blocks i 0) (get_or blocks (i + 1) 0) e;
-              same = sym (ap (after_block (drop (i + 2) blocks) (get_or blocks i 0 + get_or blocks (i + 1) 0)) q) ∙ from_block;
+              within = fits_inside (length t.backing) at offset len e;
+              same = ap (λ (j : ℕ). pairs_from t (drop j blocks) (offset + len) after) (sym n) ∙ sym (ap (after_block (drop (i + 2) blocks) (offset + len)) q) ∙ from_block;
             }

@@ -1,38 +1,28 @@
 // Opening: whether a section, its backing data and its block list belong together, question by question.
 #![tactic(auto)]
 
-ghost use Rattle.std.specs.Prelude.{◌≡◌, true, [], ◌+◌, ◌*◌, ◌%◌, ◌≤◌, length, eqb};
-ghost use Rattle.crc32.specs.Table.{is_table};
-ghost use Rattle.header.specs.declared.HeaderRead.TheVariants.{Accepted};
+ghost use Rattle.std.specs.Prelude.{◌≡◌, true, [], ◌+◌, ◌*◌, ◌%◌, ◌≤◌, length, eqb, Ok};
 ghost use Rattle.header.specs.Header.{header_of};
 ghost use Rattle.arena.specs.Internal.{Readable};
 ghost use Rattle.num.specs.Number.{le_at};
 ghost use Rattle.num.specs.Choice.{both, either};
-ghost use Rattle.num.specs.Answer.{given};
 ghost use Rattle.opening.specs.Open.{pilot_inside_of, pilots_inside, start_at, block_asked, pair_fits, pairs_from, end_for, contents_of, checked_header_of, open_of};
 ghost use Rattle.validate.specs.Internal.{inputs_with, progress_in, Ready, BlockHeld, answer_for};
 ghost use Rattle.opening.specs.Internal.{ended_for};
 
 use arena::Cursor;
-use block::Verified;
 use encoding::Encoding;
-use header::{HeaderRead, Opened};
-use sstable::Trailer;
-use validate::{BlockOpened, Carried};
-
-// Where the pairs end, or the number of the question that failed.
-#[derive(Clone, Copy)]
-pub enum BlocksOpened {
-    Ended(usize, Carried),
-    Refused(u64),
-}
+use header::Opened;
+use num::LittleEndian;
+use refusal::{Refusal, ask};
+use validate::Carried;
 
 // Question 10 of one pilot.
 fn pilot_inside(section: &[u8], o: Opened, k: usize) -> bool
     requires { 64 + 4 * k + 4 ≤ length section.now }
     ensures { result ≡ pilot_inside_of section.now o k }
 {
-    let pilot = num::u32_at(section, Encoding::HEADER + 4 * k);
+    let pilot = u32::read(section, Encoding::HEADER + 4 * k);
     if pilot < point::DIRECT {
         return true;
     }
@@ -44,19 +34,16 @@ fn pilots_inside(section: &[u8], o: Opened) -> bool
     requires { 64 + 4 * o.buckets ≤ length section.now }
     ensures { result ≡ pilots_inside section.now o }
 {
-    let mut k = 0;
-    while k < o.buckets {
+    for k in 0..o.buckets {
         if !pilot_inside(section, o, k) {
             return false;
         }
-        k += 1;
     }
     true
 }
 
 // Questions 12 to 21 of a block.
 fn open_pair(
-    table: &[[u32; 256]; 8],
     section: &[u8],
     o: Opened,
     end: usize,
@@ -66,31 +53,27 @@ fn open_pair(
     scratch: &mut [u8],
     half: usize,
     w: Carried,
-) -> BlockOpened
-    requires ready { Ready table.now section.now o end half scratch.old w }
+) -> Result<Carried, Refusal>
+    requires ready { Ready section.now o end half scratch.old w }
     requires len_in_bounds { offset + len ≤ length «data».now }
     ensures result_after { answer_for half scratch.new result ≡ block_asked (inputs_with section.now «data».now o end half) offset len (progress_in half scratch.old w) }
     ensures block_held { BlockHeld half result }
 {
     let pair_end = offset + len;
     let raw = &data[offset..pair_end];
-    let verified = block::verify(table, raw);
-    match verified {
-        Verified::Unsound => BlockOpened::Refused(12),
-        Verified::Sound(meta) => validate::open_block(
-            table,
-            section,
-            o,
-            end,
-            data,
-            offset,
-            raw,
-            meta.entries_end,
-            scratch,
-            half,
-            w,
-        ),
-    }
+    let meta = block::verify(raw)?;
+    validate::open_block(
+        section,
+        o,
+        end,
+        data,
+        offset,
+        raw,
+        meta.entries_end,
+        scratch,
+        half,
+        w,
+    )
 }
 
 // Question 11 of a pair behind a place of the data.
@@ -106,7 +89,6 @@ pub fn pair_fits(data_len: usize, at: usize, offset: usize, len: usize) -> bool
 
 // Questions 11 to 21 of the pairs, of which the list is made.
 fn open_blocks(
-    table: &[[u32; 256]; 8],
     section: &[u8],
     o: Opened,
     end: usize,
@@ -115,35 +97,22 @@ fn open_blocks(
     scratch: &mut [u8],
     half: usize,
     w: Carried,
-) -> BlocksOpened
-    requires ready { Ready table.now section.now o end half scratch.old w }
+) -> Result<(usize, Carried), Refusal>
+    requires ready { Ready section.now o end half scratch.old w }
     requires blocks_len { length blocks.now % 2 ≡ 0 }
     ensures { ended_for half scratch.new result ≡ pairs_from (inputs_with section.now «data».now o end half) blocks.now 0 (progress_in half scratch.old w) }
 {
     let mut carried = w;
     let mut at = 0;
-    let mut i = 0;
-    while i < blocks.len() {
-        let offset = blocks[i] as usize;
-        let len = blocks[i + 1] as usize;
-        if !pair_fits(data.len(), at, offset, len) {
-            return BlocksOpened::Refused(11);
-        }
-        let opened = open_pair(
-            table, section, o, end, data, offset, len, scratch, half, carried,
-        );
-        match opened {
-            BlockOpened::Passed(after) => {
-                carried = after;
-                at = offset + len;
-                i += 2;
-            }
-            BlockOpened::Refused(n) => {
-                return BlocksOpened::Refused(n);
-            }
-        }
+    let (pairs, _) = blocks.as_chunks::<2>();
+    for pair in pairs {
+        let [offset, len] = *pair;
+        let (offset, len) = (offset as usize, len as usize);
+        ask(pair_fits(data.len(), at, offset, len), Refusal::BlockList)?;
+        carried = open_pair(section, o, end, data, offset, len, scratch, half, carried)?;
+        at = offset + len;
     }
-    BlocksOpened::Ended(at, carried)
+    Ok((at, carried))
 }
 
 // Question 22.
@@ -171,21 +140,25 @@ fn prefixes_counted(section: &[u8], o: Opened, c: Cursor) -> bool
     if o.scan == 0 {
         return true;
     }
-    num::u64_at(section, o.scan + 16) as usize == c.prefixes
+    u64::read(section, o.scan + 16) == c.prefixes as u64
 }
 
 // Questions 22 and 23.
-fn finish(section: &[u8], data: &[u8], o: Opened, end: usize, at: usize, c: Cursor) -> HeaderRead
+#[tactic(auto, unfolding(crate::specs::Open::end_for, crate::specs::Open::ends_together, crate::specs::Open::prefixes_counted, num::specs::Choice::choice_defs))]
+fn finish(
+    section: &[u8],
+    data: &[u8],
+    o: Opened,
+    end: usize,
+    at: usize,
+    c: Cursor,
+) -> Result<Opened, Refusal>
     requires { Readable section.now o }
-    ensures { result ≡ end_for (inputs_with section.now «data».now o end 0) (given (record { at = at; progress = record { previous = []; cursor = c } })) }
+    ensures { result ≡ end_for (inputs_with section.now «data».now o end 0) (Ok (record { at = at; progress = record { previous = []; cursor = c } })) }
 {
-    if !ends_together(data.len(), at, o, end, c) {
-        return HeaderRead::Refused(22);
-    }
-    if !prefixes_counted(section, o, c) {
-        return HeaderRead::Refused(23);
-    }
-    HeaderRead::Accepted(o)
+    ask(ends_together(data.len(), at, o, end, c), Refusal::Ends)?;
+    ask(prefixes_counted(section, o, c), Refusal::PrefixCount)?;
+    Ok(o)
 }
 
 // The walk's start: no keys, and the arena's start.
@@ -211,83 +184,47 @@ fn start(o: Opened) -> Carried
     }
 }
 
-// Questions 10 to 23 of a section whose header passed. The CRC tables are lent, since a constant array is copied where it becomes a value.
+// Questions 10 to 23 of a section whose header passed.
+#[tactic(auto, unfolding(crate::specs::Open::contents_of, num::specs::Choice::choice_defs))]
 pub fn contents(
-    table: &[[u32; 256]; 8],
     section: &[u8],
     data: &[u8],
     blocks: &[u64],
     scratch: &mut [u8],
     o: Opened,
-) -> HeaderRead
-    requires { (is_table table.now ≡ true) × (header_of section.now ≡ Accepted o) }
+) -> Result<Opened, Refusal>
+    requires { header_of section.now ≡ Ok o }
     ensures value { result ≡ contents_of section.now «data».now blocks.now (length scratch.old) o }
     ensures scratch_len_unchanged { length scratch.new ≡ length scratch.old }
 {
-    if !pilots_inside(section, o) {
-        return HeaderRead::Refused(10);
-    }
-    if blocks.len() % 2 != 0 {
-        return HeaderRead::Refused(11);
-    }
+    ask(pilots_inside(section, o), Refusal::PilotSlot)?;
+    ask(blocks.len() % 2 == 0, Refusal::BlockList)?;
     let end = header::arena_end(section, o);
     let half = scratch.len() / 2;
-    let walked = open_blocks(
-        table,
-        section,
-        o,
-        end,
-        data,
-        blocks,
-        scratch,
-        half,
-        start(o),
-    );
-    match walked {
-        BlocksOpened::Ended(at, w) => {
-            let c = w.cursor;
-            finish(section, data, o, end, at, c)
-        }
-        BlocksOpened::Refused(n) => HeaderRead::Refused(n),
-    }
+    let (at, w) = open_blocks(section, o, end, data, blocks, scratch, half, start(o))?;
+    finish(section, data, o, end, at, w.cursor)
 }
 
 // Questions 1 to 6: the trailer, then the header.
-pub fn checked_header(table: &[[u32; 256]; 8], section: &[u8]) -> HeaderRead
-    requires { is_table table.now ≡ true }
+#[tactic(auto, unfolding(crate::specs::Open::checked_header_of, crate::specs::Open::trailed_header))]
+pub fn checked_header(section: &[u8]) -> Result<Opened, Refusal>
     ensures { result ≡ checked_header_of section.now }
 {
-    let trailer = sstable::verify_trailer(table, section);
-    match trailer {
-        Trailer::UnknownType => HeaderRead::Refused(1),
-        Trailer::ChecksumMismatch => HeaderRead::Refused(2),
-        Trailer::Intact => header::header(section),
-    }
+    sstable::verify_trailer(section)?;
+    header::header(section)
 }
 
-fn open_with(
-    table: &[[u32; 256]; 8],
+// The plain opening: the record of a section beside backing data and a block list, or the first question that fails.
+#[tactic(auto, using(crate::proofs::Accepted::checked_header), unfolding(crate::specs::Open::open_of, crate::specs::Open::contents_for))]
+pub fn open(
     section: &[u8],
     data: &[u8],
     blocks: &[u64],
     scratch: &mut [u8],
-) -> HeaderRead
-    requires { is_table table.now ≡ true }
+) -> Result<Opened, Refusal>
     ensures value { result ≡ open_of section.now «data».now blocks.now (length scratch.old) }
     ensures scratch_len_unchanged { length scratch.new ≡ length scratch.old }
 {
-    let read = checked_header(table, section);
-    match read {
-        HeaderRead::Refused(n) => HeaderRead::Refused(n),
-        HeaderRead::Accepted(o) => contents(table, section, data, blocks, scratch, o),
-    }
-}
-
-// The plain opening: the record of a section beside backing data and a block list, or the number of the first question that fails.
-pub fn open(section: &[u8], data: &[u8], blocks: &[u64], scratch: &mut [u8]) -> HeaderRead
-    ensures value { result ≡ open_of section.now «data».now blocks.now (length scratch.old) }
-    ensures scratch_len_unchanged { length scratch.new ≡ length scratch.old }
-{
-    let table = crc32::slices();
-    open_with(&table, section, data, blocks, scratch)
+    let o = checked_header(section)?;
+    contents(section, data, blocks, scratch, o)
 }

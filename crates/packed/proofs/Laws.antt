@@ -7,7 +7,7 @@ use Prim.Native.Nat.{ℕ, suc, ◌+◌, ◌-◌, ◌/◌, ◌%◌, ◌<◌, ◌�
 use native.Mathlib.Nat.{zero-add}
 use native.Mathlib.Omega.{arith}
 use lib.ListN.{length, get_or, set, take, drop, length-append}
-use lib.Seq.{sets, length-sets}
+use lib.Seq.{sets, sets-eq, length-sets}
 use Rattle.num.specs.Choice.{one_of}
 use Rattle.num.specs.Number.{le_bytes}
 use Rattle.num.proofs.Choice.{one_of-case}
@@ -15,43 +15,15 @@ use Rattle.num.proofs.Copy.{copy_step}
 use Rattle.num.proofs.Lists.{part_length, part_append}
 use Rattle.num.proofs.Stores.{behind, tail_of, tail_put, sets_tail}
 
--- three and four bytes of a number, stored one by one
-pub sets_three : (out : List ℕ) (at v : ℕ) → set (set (set out at (v % 256)) (at + 1) (v / 256 % 256)) (at + 2) (v / 256 / 256 % 256) ≡ sets out at (le_bytes 3 v)
-unfolding le_bytes
-sets_three out at v =
-    let e : at + 1 ≡ suc at = omega arith in
-    let f : at + 2 ≡ suc (suc at) = omega arith in
-    rw (e, f)
-
-pub sets_four : (out : List ℕ) (at v : ℕ)
-    → set (set (set (set out at (v % 256)) (at + 1) (v / 256 % 256)) (at + 2) (v / 256 / 256 % 256)) (at + 3) (v / 256 / 256 / 256 % 256) ≡ sets out at (le_bytes 4 v)
-unfolding le_bytes
-sets_four out at v =
-    let e : at + 1 ≡ suc at = omega arith in
-    let f : at + 2 ≡ suc (suc at) = omega arith in
-    let g : at + 3 ≡ suc (suc (suc at)) = omega arith in
-    rw (e, f, g)
-
--- a part copied to the front, element by element
-pub copy_turn : (out s : List ℕ) (from count i : ℕ) → i < count → from + count ≤ length s
-    → sets (set out i (get_or s (from + i) 0)) (i + 1) (take (count - (i + 1)) (drop (from + (i + 1)) s)) ≡ sets out i (take (count - i) (drop (from + i) s))
-copy_turn out s from count i h l = simp zero-add at (copy_step out s 0 from count i h l)
+-- what is copied to the front, and the rest as before
+pub front_copied : (out part : List ℕ) (n : ℕ) → n ≤ length out → length part ≡ n → part ++ drop n out ≡ sets out 0 part
+front_copied out part n h e = sym (sets-eq part out 0 (omega arith) ∙ ap (λ (k : ℕ). part ++ drop k out) (zero-add (length part) ∙ e))
 
 -- a run of stores and the one behind it are one run
 pub sets_first : (out w v l : List ℕ) (a b : ℕ) → a + length w ≡ b → w ++ v ≡ l → sets (sets out a w) b v ≡ sets out a l
 sets_first out w v l a b e p = behind out (sets out a w) (sets (sets out a w) b v) w v a b e refl refl ∙ ap (sets out a) p
 
--- eight bytes copied four by four
-pub sets_eight : (out s : List ℕ) (at from address : ℕ) → from + address ≤ length s → address ≡ 8
-    → sets (sets out at (take 4 (drop from s))) (at + 4) (take 4 (drop (from + 4) s)) ≡ sets out at (take address (drop from s))
-sets_eight out s at from address h e =
-    sets_first out (take 4 (drop from s)) (take 4 (drop (from + 4) s)) (take address (drop from s)) at (at + 4)
-    (ap (λ (n : ℕ). at + n) (part_length s from 4 (omega arith))) (sym (ap (λ (n : ℕ). take n (drop from s)) e ∙ part_append s from 4 4))
-
 -- a width that is four or eight
-pub four_least : (w : ℕ) → one_of (4 ∷ 8 ∷ []) w ≡ true → 4 ≤ w
-four_least w e = one_of-case (λ n. 4 ≤ n) _ w e (omega arith, (omega arith, tt))
-
 pub eight_most : (w : ℕ) → one_of (4 ∷ 8 ∷ []) w ≡ true → w ≤ 8
 eight_most w e = one_of-case (λ n. n ≤ 8) _ w e (omega arith, (omega arith, tt))
 

@@ -13,8 +13,8 @@ use Rattle.num.proofs.Number.{length_le_bytes}
 use Rattle.num.proofs.Parts.{entry_inside}
 use Rattle.num.proofs.Pieces.{pieces_length}
 use Rattle.encoding.specs.Encoding.{header_len, trailer_len}
+use Rattle.std.specs.Prelude.{Ok}
 use Rattle.header.specs.declared.Opened.{Opened}
-use Rattle.header.specs.declared.HeaderRead.TheVariants.{Accepted}
 use Rattle.header.specs.Header.{header_of, arena_end_of, packed_record}
 use Rattle.header.specs.Facts.{Header, from_plain}
 use Rattle.header.proofs.Headers.{header_facts}
@@ -102,6 +102,6 @@ module _ (s : List ℕ) (o : Opened) (h : Header s o) where
       (omega (arith, packed_arena_lem p e, f, length_packed), packed_shorter, omega arith, omega (arith, h.begins.long))
 
 -- the same of an accepted header
-pub accepted_places : (s : List ℕ) (o p : Opened) (end : ℕ) → header_of s ≡ Accepted o → p ≡ packed_record o → end ≡ arena_end_of s o
+pub accepted_places : (s : List ℕ) (o p : Opened) (end : ℕ) → header_of s ≡ Ok o → p ≡ packed_record o → end ≡ arena_end_of s o
     → (p.arena + (end - o.arena) + trailer_len ≡ length (packed_bytes s o)) × (length (packed_bytes s o) ≤ length s) × (o.arena ≤ end) × (end + trailer_len ≤ length s)
 accepted_places s o p end e f g = packed_places s o (header_facts s o e) p end f g

@@ -1,20 +1,20 @@
 // The packed bytes of a section: pilots of three bytes, addresses without fingerprints, and no scan part.
 #![tactic(auto)]
 
-ghost use Rattle.std.specs.Prelude.{◌≡◌, true, [], ◌∷◌, ◌++◌, ◌+◌, ◌*◌, ◌≤◌, length, take, drop};
+ghost use Rattle.std.specs.Prelude.{◌≡◌, true, [], ◌∷◌, ◌++◌, ◌+◌, ◌*◌, ◌≤◌, length, take, drop, Ok};
 ghost use Rattle.std.proofs.lemmas.List.Edits.{sets};
 ghost use Rattle.num.specs.Choice.{one_of};
 ghost use Rattle.num.specs.Number.{le_bytes};
-ghost use Rattle.header.specs.declared.HeaderRead.TheVariants.{Accepted};
 ghost use Rattle.header.specs.Header.{header_of};
 ghost use Rattle.packed.specs.Packed.{pack_pilot, packed_pilots, packed_addresses, packed_bytes};
 
 use encoding::Encoding;
 use header::Opened;
+use num::LittleEndian;
 
 // The length of the packed bytes of a section whose header passed.
 pub fn packed_len(section: &[u8], o: Opened) -> usize
-    requires { header_of section.now ≡ Accepted o }
+    requires { header_of section.now ≡ Ok o }
     ensures { result ≡ length (packed_bytes section.now o) }
 {
     let packed = header::packed_record(o);
@@ -23,15 +23,12 @@ pub fn packed_len(section: &[u8], o: Opened) -> usize
 }
 
 // Copies `count` bytes of a section to the front of the output.
+#[tactic(auto, using(crate::proofs::Laws::front_copied))]
 fn copy_in(out: &mut [u8], section: &[u8], from: usize, count: usize)
     requires { (from + count ≤ length section.now) × (count ≤ length out.old) }
     ensures { out.new ≡ sets out.old 0 (take count (drop from section.now)) }
 {
-    let mut i = 0;
-    while i < count {
-        out[i] = section[from + i];
-        i += 1;
-    }
+    out[..count].copy_from_slice(&section[from..from + count]);
 }
 
 // A pilot with its bit 31 moved to bit 23.
@@ -44,13 +41,13 @@ fn pack_pilot(pilot: u32) -> u32
     pilot % point::DIRECT + 0x80_0000
 }
 
+// Writes the three low bytes of a number.
+#[tactic(auto, using(num::proofs::Standing::standing))]
 fn put_three(out: &mut [u8], at: usize, value: u32)
     requires { at + 3 ≤ length out.old }
     ensures { out.new ≡ sets out.old at (le_bytes 3 value) }
 {
-    out[at] = (value % 256) as u8;
-    out[at + 1] = (value / 256 % 256) as u8;
-    out[at + 2] = (value / 256 / 256 % 256) as u8;
+    out[at..at + 3].copy_from_slice(&value.to_le_bytes()[..3]);
 }
 
 // Writes the first pilots of a section to the front of the output, 3 bytes each.
@@ -58,37 +55,24 @@ fn put_pilots(out: &mut [u8], section: &[u8], count: usize)
     requires { (64 + 4 * count ≤ length section.now) × (3 * count ≤ length out.old) }
     ensures { out.new ≡ sets out.old 0 (packed_pilots section.now 0 count) }
 {
-    let mut k = 0;
-    while k < count {
-        let pilot = num::u32_at(section, Encoding::HEADER + 4 * k);
+    for k in 0..count {
+        let pilot = u32::read(section, Encoding::HEADER + 4 * k);
         put_three(out, 3 * k, pack_pilot(pilot));
-        k += 1;
     }
 }
 
-// Copies four bytes, read as one number.
-fn copy_four(out: &mut [u8], at: usize, section: &[u8], from: usize)
-    requires { (at + 4 ≤ length out.old) × (from + 4 ≤ length section.now) }
-    ensures { out.new ≡ sets out.old at (take 4 (drop from section.now)) }
-{
-    let value = num::u32_at(section, from);
-    out[at] = (value % 256) as u8;
-    out[at + 1] = (value / 256 % 256) as u8;
-    out[at + 2] = (value / 256 / 256 % 256) as u8;
-    out[at + 3] = (value / 256 / 256 / 256 % 256) as u8;
-}
-
 // Copies an address, of four or eight bytes.
+#[tactic(auto, using(num::proofs::Copy::copied, crate::proofs::Laws::not_four))]
 fn copy_address(out: &mut [u8], at: usize, section: &[u8], from: usize, address: usize)
     requires address_value { one_of (4 ∷ 8 ∷ []) address ≡ true }
     requires address_in_bounds { (at + address ≤ length out.old) × (from + address ≤ length section.now) }
     ensures { out.new ≡ sets out.old at (take address (drop from section.now)) }
 {
-    copy_four(out, at, section, from);
     if address == 4 {
-        return;
+        out[at..at + 4].copy_from_slice(&section[from..from + 4]);
+    } else {
+        out[at..at + 8].copy_from_slice(&section[from..from + 8]);
     }
-    copy_four(out, at + 4, section, from + 4);
 }
 
 // Writes the addresses of all slots to the front of the output, without their fingerprints.
@@ -101,8 +85,7 @@ fn put_addresses(out: &mut [u8], section: &[u8], o: Opened)
     let e = o.encoding;
     let address = e.address;
     let slots = Encoding::HEADER + 4 * o.buckets;
-    let mut i = 0;
-    while i < o.count {
+    for i in 0..o.count {
         copy_address(
             out,
             i * address,
@@ -110,7 +93,6 @@ fn put_addresses(out: &mut [u8], section: &[u8], o: Opened)
             slots + i * (address + 2),
             address,
         );
-        i += 1;
     }
 }
 
@@ -130,7 +112,7 @@ fn write_tables(section: &[u8], o: Opened, output: &mut [u8])
 
 // Writes the packed bytes of a section whose header passed.
 pub fn write_packed(section: &[u8], o: Opened, output: &mut [u8])
-    requires section_value { header_of section.now ≡ Accepted o }
+    requires section_value { header_of section.now ≡ Ok o }
     requires o_in_bounds { length (packed_bytes section.now o) ≤ length output.old }
     ensures { output.new ≡ sets output.old 0 (packed_bytes section.now o) }
 {

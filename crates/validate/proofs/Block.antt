@@ -9,26 +9,27 @@ use native.Mathlib.Omega.{arith}
 use lib.Dec.{leb}
 use lib.ListN.{length}
 use borrow.Author.Tests.{le-leb, lt-leb}
-use Rattle.num.specs.Answer.{Answer, given, refused}
+use Rattle.std.specs.Prelude.{Result, Ok, Err}
+use Rattle.refusal.specs.declared.Refusal.{Refusal}
+use Rattle.refusal.specs.declared.Refusal.TheVariants as refusal
+use Rattle.refusal.proofs.Asked.{refused_ok, same_ok}
 use Rattle.block.specs.Walk.{Entry, Step, met, stop, step_of, Walk, at_end, stopped, no_entries, entry_then, walk_at}
 use Rattle.block.proofs.Step.{step_moved}
 use Rattle.block.proofs.Walk.{walk_ind}
 use Rattle.arena.specs.Internal.{Readable, Inside}
 use Rattle.header.specs.declared.Opened.{Opened}
 use Rattle.validate.specs.declared.Carried.{Carried}
-use Rattle.validate.specs.declared.RecordOpened.{RecordOpened}
-use Rattle.validate.specs.declared.RecordOpened.TheVariants.{More, Refused}
 use Rattle.validate.specs.Walk.{Inputs, Progress, placed, entry_asked, entries_from, walk_ended, records_asked}
-use Rattle.validate.specs.Internal.{State, progress_of, Asked, more, no_more, asked_from, record_asked, step_asked, asked_at, inputs_with, state_in, Ready, RecordHeld, asked_for}
+use Rattle.validate.specs.Internal.{State, progress_of, asked_from, record_asked, step_asked, asked_at, inputs_with, state_in, Held, Ready}
 use Rattle.validate.proofs.Entries.{follow, entries_cons, entry_inside}
 
 -- the records of a block from a place on, in at most as many steps as the first number says
-unfoldable pub block_from : ℕ → Inputs → ℕ → List ℕ → ℕ → ℕ → State → Answer State
-block_from zero t offset raw entriesEnd pos st = refused 13
+unfoldable pub block_from : ℕ → Inputs → ℕ → List ℕ → ℕ → ℕ → State → Result State Refusal
+block_from zero t offset raw entriesEnd pos st = Err refusal.Entry
 block_from (suc f) t offset raw entriesEnd pos st =
     elim (leb entriesEnd pos) [
-      | true ↦ given st
-      | false ↦ elim (asked_at t offset raw entriesEnd pos st) [ more next after ↦ block_from f t offset raw entriesEnd next after | no_more n ↦ refused n ]
+      | true ↦ Ok st
+      | false ↦ elim (asked_at t offset raw entriesEnd pos st) [ Ok m ↦ block_from f t offset raw entriesEnd m.0 m.1 | Err n ↦ Err n ]
     ]
 
 -- at a block's start no key is before
@@ -36,7 +37,7 @@ unfoldable pub at_start : State → State
 at_start st = record { key = []; previous = st.previous; cursor = st.cursor }
 
 -- a record passes a byte at least, so one step for each byte and one for the end are enough
-unfoldable pub block_of : Inputs → ℕ → List ℕ → ℕ → State → Answer State
+unfoldable pub block_of : Inputs → ℕ → List ℕ → ℕ → State → Result State Refusal
 block_of t offset raw entriesEnd st = block_from (suc entriesEnd) t offset raw entriesEnd 0 (at_start st)
 
 -- ---- one record
@@ -48,19 +49,19 @@ pub record Moved (t : Inputs) (entriesEnd pos next : ℕ) (st after : State) : T
   pub inside : Readable t.section t.opened → Inside t.section t.opened t.end st.cursor → Inside t.section t.opened t.end after.cursor
 
 -- a record that is followed by more passed
-asked_given : (n m : ℕ) (key : List ℕ) (after : State) (a : Answer Progress) → asked_from n key a ≡ more m after
-    → (n ≡ m) × ((q : Progress) × (a ≡ given q) × (q.cursor ≡ after.cursor))
+asked_given : (n m : ℕ) (key : List ℕ) (after : State) (a : Result Progress Refusal) → asked_from n key a ≡ Ok (m, after)
+    → (n ≡ m) × ((q : Progress) × (a ≡ Ok q) × (q.cursor ≡ after.cursor))
 unfolding asked_from
-asked_given n m key after (refused k) e = absurd (let z : ◌≡◌ {A = ℕ} 0 1 = cc in omega arith)
-asked_given n m key after (given q) e =
-    let z : record { key = key; previous = q.previous; cursor = q.cursor } ≡ after = cc in
-    (cc, (q, refl, ap (λ (x : State). x.cursor) z))
+asked_given n m key after (Err k) e = refused_ok e
+asked_given n m key after (Ok q) e =
+    let z = same_ok e in
+    (ap (λ (x : ℕ × State). x.0) z, (q, refl, ap (λ (x : ℕ × State). x.1.cursor) z))
 
 module _ (t : Inputs) (offset : ℕ) (raw : List ℕ) (entriesEnd pos : ℕ) (st : State) where
-  moved_for : (p : Step) (next : ℕ) (after : State) → step_of raw entriesEnd pos st.key ≡ p → step_asked t offset st p ≡ more next after
+  moved_for : (p : Step) (next : ℕ) (after : State) → step_of raw entriesEnd pos st.key ≡ p → step_asked t offset st p ≡ Ok (next, after)
       → Moved t entriesEnd pos next st after
   unfolding step_asked record_asked progress_of
-  moved_for stop next after q a = absurd (let z : ◌≡◌ {A = ℕ} 0 1 = cc in omega arith)
+  moved_for stop next after q a = refused_ok a
   moved_for (met e n) next after q a =
       let v = asked_given n next (placed offset e).key after (entry_asked t (progress_of st) (placed offset e)) a in
       let m = step_moved raw entriesEnd pos st.key e n q in
@@ -72,7 +73,7 @@ module _ (t : Inputs) (offset : ℕ) (raw : List ℕ) (entriesEnd pos : ℕ) (st
             (entry_inside t r (progress_of st) v.1.0 (placed offset e) i v.1.1);
       }
 
-  pub moved : (next : ℕ) (after : State) → asked_at t offset raw entriesEnd pos st ≡ more next after → Moved t entriesEnd pos next st after
+  pub moved : (next : ℕ) (after : State) → asked_at t offset raw entriesEnd pos st ≡ Ok (next, after) → Moved t entriesEnd pos next st after
   unfolding asked_at
   moved next after q = moved_for (step_of raw entriesEnd pos st.key) next after refl q
 
@@ -80,27 +81,27 @@ module _ (t : Inputs) (offset : ℕ) (raw : List ℕ) (entriesEnd pos : ℕ) (st
 
 module _ (t : Inputs) (offset : ℕ) (raw : List ℕ) (entriesEnd : ℕ) where
   -- what follows a step, and what follows the test for the end
-  after_step : ℕ → Asked → Answer State
-  after_step f a = elim a [ more next after ↦ block_from f t offset raw entriesEnd next after | no_more n ↦ refused n ]
+  after_step : ℕ → Result (ℕ × State) Refusal → Result State Refusal
+  after_step f a = elim a [ Ok m ↦ block_from f t offset raw entriesEnd m.0 m.1 | Err n ↦ Err n ]
 
-  tested : ℕ → Asked → State → Bool → Answer State
-  tested f a st b = elim b [ true ↦ given st | false ↦ after_step f a ]
+  tested : ℕ → Result (ℕ × State) Refusal → State → Bool → Result State Refusal
+  tested f a st b = elim b [ true ↦ Ok st | false ↦ after_step f a ]
 
   -- at the end of the entries the walk ends
-  pub block_done : (f pos : ℕ) (st : State) → 0 < f → entriesEnd ≤ pos → block_from f t offset raw entriesEnd pos st ≡ given st
+  pub block_done : (f pos : ℕ) (st : State) → 0 < f → entriesEnd ≤ pos → block_from f t offset raw entriesEnd pos st ≡ Ok st
   unfolding block_from tested after_step
   block_done zero pos st p h = absurd (omega arith)
   block_done (suc f) pos st p h = ap (tested f (asked_at t offset raw entriesEnd pos st) st) (le-leb entriesEnd pos h)
 
   -- a record that is refused ends it
-  pub block_refused : (f pos n : ℕ) (st : State) → 0 < f → pos < entriesEnd → asked_at t offset raw entriesEnd pos st ≡ no_more n
-      → block_from f t offset raw entriesEnd pos st ≡ refused n
+  pub block_refused : (f pos : ℕ) (n : Refusal) (st : State) → 0 < f → pos < entriesEnd → asked_at t offset raw entriesEnd pos st ≡ Err n
+      → block_from f t offset raw entriesEnd pos st ≡ Err n
   unfolding block_from tested after_step
   block_refused zero pos n st p h e = absurd (omega arith)
   block_refused (suc f) pos n st p h e = ap (tested f (asked_at t offset raw entriesEnd pos st) st) (lt-leb entriesEnd pos h) ∙ ap (after_step f) e
 
   -- a record that is not is followed by the walk from behind it
-  pub block_more : (f pos next : ℕ) (st after : State) → 0 < f → pos < entriesEnd → asked_at t offset raw entriesEnd pos st ≡ more next after
+  pub block_more : (f pos next : ℕ) (st after : State) → 0 < f → pos < entriesEnd → asked_at t offset raw entriesEnd pos st ≡ Ok (next, after)
       → block_from f t offset raw entriesEnd pos st ≡ block_from (f - 1) t offset raw entriesEnd next after
   unfolding block_from tested after_step
   block_more zero pos next st after p h e = absurd (omega arith)
@@ -113,7 +114,7 @@ module _ (t : Inputs) (offset : ℕ) (raw : List ℕ) (entriesEnd : ℕ) where
 -- ---- the walk so far
 
 -- from a place on, with fuel enough, the walk answers this
-pub record Walking (t : Inputs) (offset : ℕ) (raw : List ℕ) (entriesEnd : ℕ) (answer : Answer State) (pos : ℕ) (st : State) : Type 0 where
+pub record Walking (t : Inputs) (offset : ℕ) (raw : List ℕ) (entriesEnd : ℕ) (answer : Result State Refusal) (pos : ℕ) (st : State) : Type 0 where
   pub within : pos ≤ entriesEnd
   pub fuel : ℕ
   pub enough : entriesEnd < pos + fuel
@@ -124,14 +125,14 @@ module _ (t : Inputs) (offset : ℕ) (raw : List ℕ) (entriesEnd : ℕ) where
   unfolding block_of
   walking_start st = record { within = omega arith; fuel = suc entriesEnd; enough = omega arith; same = refl }
 
-  module _ (answer : Answer State) (pos : ℕ) (st : State) (w : Walking t offset raw entriesEnd answer pos st) where
-    pub walking_done : entriesEnd ≤ pos → given st ≡ answer
+  module _ (answer : Result State Refusal) (pos : ℕ) (st : State) (w : Walking t offset raw entriesEnd answer pos st) where
+    pub walking_done : entriesEnd ≤ pos → Ok st ≡ answer
     walking_done h = let l = w.enough in let p = w.within in sym (block_done t offset raw entriesEnd w.fuel pos st (omega arith) h) ∙ w.same
 
-    pub walking_refused : (n : ℕ) → pos < entriesEnd → asked_at t offset raw entriesEnd pos st ≡ no_more n → refused n ≡ answer
+    pub walking_refused : (n : Refusal) → pos < entriesEnd → asked_at t offset raw entriesEnd pos st ≡ Err n → Err n ≡ answer
     walking_refused n h e = let l = w.enough in sym (block_refused t offset raw entriesEnd w.fuel pos n st (omega arith) h e) ∙ w.same
 
-    pub walking_more : (next : ℕ) (after : State) → pos < entriesEnd → asked_at t offset raw entriesEnd pos st ≡ more next after
+    pub walking_more : (next : ℕ) (after : State) → pos < entriesEnd → asked_at t offset raw entriesEnd pos st ≡ Ok (next, after)
         → Walking t offset raw entriesEnd answer next after
     walking_more next after h e =
         let l = w.enough in
@@ -145,28 +146,19 @@ module _ (t : Inputs) (offset : ℕ) (raw : List ℕ) (entriesEnd : ℕ) where
 
 -- ---- what the walk counts on holds behind a record
 
-module _ (tables : List (List ℕ)) (s «data» : List ℕ) (o : Opened) (end half offset : ℕ) (raw : List ℕ) (entriesEnd pos : ℕ) (scratch left : List ℕ) (w : Carried) (r : RecordOpened)
-    (ready : Ready tables s o end half scratch w) (kept : length left ≡ length scratch)
-    (e : asked_for half left r ≡ asked_at (inputs_with s «data» o end half) offset raw entriesEnd pos (state_in half scratch w)) (h : RecordHeld half r) where
-  pub asked_more : (next : ℕ) (after : Carried) → r ≡ More next after
-      → asked_at (inputs_with s «data» o end half) offset raw entriesEnd pos (state_in half scratch w) ≡ more next (state_in half left after)
-  unfolding asked_for
-  asked_more next after q = sym e ∙ ap (asked_for half left) q
-
-  pub asked_refusal : (n : ℕ) → r ≡ Refused n → asked_at (inputs_with s «data» o end half) offset raw entriesEnd pos (state_in half scratch w) ≡ no_more n
-  unfolding asked_for
-  asked_refusal n q = sym e ∙ ap (asked_for half left) q
-
-  pub ready_more : (next : ℕ) (after : Carried) → r ≡ More next after → Ready tables s o end half left after
-  unfolding state_in
-  ready_more next after q =
-      record {
-        table = ready.table;
-        readable = ready.readable;
-        inside = (moved (inputs_with s «data» o end half) offset raw entriesEnd pos (state_in half scratch w) next (state_in half left after) (asked_more next after q)).inside ready.readable ready.inside;
-        halves = omega (arith, kept, ready.halves);
-        held = subst (RecordHeld half) q h;
-      }
+-- a record that goes on leaves the keys in their halves, and the cursor in the arena
+pub ready_more : (s «data» : List ℕ) (o : Opened) (end half offset : ℕ) (raw : List ℕ) (entriesEnd pos : ℕ) (scratch left : List ℕ) (w : Carried) → Ready s o end half scratch w
+    → length left ≡ length scratch → (next : ℕ) (after : Carried)
+    → asked_at (inputs_with s «data» o end half) offset raw entriesEnd pos (state_in half scratch w) ≡ Ok (next, state_in half left after) → Held half after
+    → Ready s o end half left after
+unfolding state_in
+ready_more s «data» o end half offset raw entriesEnd pos scratch left w ready kept next after e h =
+    record {
+      readable = ready.readable;
+      inside = (moved (inputs_with s «data» o end half) offset raw entriesEnd pos (state_in half scratch w) next (state_in half left after) e).inside ready.readable ready.inside;
+      halves = omega (arith, kept, ready.halves);
+      held = h;
+    }
 
 -- ---- the walk of the block, and the questions asked of its records
 
@@ -175,9 +167,9 @@ state_of : List ℕ → Progress → State
 state_of key p = record { key = key; previous = p.previous; cursor = p.cursor }
 
 -- the answer without the key before
-unfoldable pub forget : Answer State → Answer Progress
-forget (given st) = given (progress_of st)
-forget (refused n) = refused n
+unfoldable pub forget : Result State Refusal → Result Progress Refusal
+forget (Ok st) = Ok (progress_of st)
+forget (Err n) = Err n
 
 module _ (t : Inputs) (offset : ℕ) (raw : List ℕ) (end : ℕ) where
   step_from : (f pos : ℕ) (st : State) (s : Step) → pos < end → step_of raw end pos st.key ≡ s
@@ -200,11 +192,11 @@ module _ (t : Inputs) (offset : ℕ) (raw : List ℕ) (end : ℕ) where
   told_halt pos prev h e zero l p = absurd (omega arith)
   told_halt pos prev h e (suc f) l p = ap forget (step_from f pos (state_of prev p) stop h e)
 
-  told_onward : (next : ℕ) (key : List ℕ) (w : Walk) (f : ℕ) → end - next < f → Told next key w → (a : Answer Progress)
+  told_onward : (next : ℕ) (key : List ℕ) (w : Walk) (f : ℕ) → end - next < f → Told next key w → (a : Result Progress Refusal)
       → forget (after_step t offset raw end f (asked_from next key a)) ≡ walk_ended w.ended (follow t (map (placed offset) w.entries) a)
   unfolding forget records_asked walk_ended after_step asked_from follow state_of
-  told_onward next key w f l h (given q) = h f l q
-  told_onward next key w f l h (refused n) = refl
+  told_onward next key w f l h (Ok q) = h f l q
+  told_onward next key w f l h (Err n) = refl
 
   told_more : (pos : ℕ) (prev : List ℕ) (e : Entry) (next : ℕ) → step_of raw end pos prev ≡ met e next
       → Told next e.key (walk_at raw end next e.key) → Told pos prev (entry_then e (walk_at raw end next e.key))

@@ -1,36 +1,98 @@
 -- One record: the keys in the scratch, and the answer for each way through questions 13 to 21.
 -- Assumes nothing.
-use mathlib.Core.Path.{◌≡◌, sym, ap, ◌∙◌}
+use mathlib.Core.Path.{◌≡◌, refl, sym, ap, ◌∙◌}
 use mathlib.Core.List.{List, ◌++◌}
 use mathlib.Core.Bool.{Bool, true, false}
 use Prim.Native.Nat.{ℕ, ◌+◌, ◌-◌, ◌<◌, ◌≤◌}
 use native.Mathlib.Omega.{arith}
-use lib.Dec.{eqb}
+use lib.Dec.{eqb, leb}
 use lib.ListN.{length, get_or, set, take, drop, length-append}
-use lib.Seq.{sets, length-take-le}
-use borrow.Author.Tests.{le-leb, lt-leb, eq-eqb, ne_eqb}
+use lib.Seq.{sets, length-take-le, take-take}
+use borrow.Author.Tests.{le-leb, eq-eqb, ne_eqb}
 use Rattle.num.specs.Choice.{when◌then◌else◌}
-use Rattle.num.proofs.Copy.{copy_step}
+use Rattle.num.proofs.Copy.{copied}
 use Rattle.num.proofs.Lists.{part_length, part_sets_before, part_sets_same, drop_sets_behind}
 use Rattle.sstable.specs.declared.Kind.{Kind}
+use Rattle.sstable.specs.declared.Kind.TheVariants.{Put, Tombstone}
+use Rattle.sstable.specs.Kind.{kind_of}
 use Rattle.sstable.specs.Limits.{within_limits}
 use Rattle.block.specs.declared.Record.{Record}
-use Rattle.block.specs.declared.Stepped.TheVariants.{Met, Stopped}
-use Rattle.block.specs.Record.{record_at, stepped_number}
+use Rattle.block.specs.declared.EntryHeader.{EntryHeader}
+use Rattle.block.specs.EntryHeader.{entry_header_of, entry_header_for, entry_header_kind}
+use Rattle.block.specs.Record.{record_at, record_at_for}
+use Rattle.refusal.specs.Refusal.{ask_of}
+use Rattle.std.specs.Result.{IsErrAnd}
+use Rattle.std.proofs.lemmas.Result.{err_from_is_err_and}
+use Rattle.refusal.proofs.Asked.{refused_ok}
 use Rattle.block.specs.Walk.{Entry, entry_of}
 use Rattle.block.proofs.Step.{record_inside, step_met, step_stop, key_copied}
 use Rattle.header.specs.declared.Opened.{Opened}
+use Rattle.std.specs.Prelude.{Result, Ok, Err}
+use Rattle.refusal.specs.declared.Refusal.{Refusal}
+use Rattle.refusal.specs.declared.Refusal.TheVariants as refusal
 use Rattle.arena.specs.declared.Cursor.{Cursor}
-use Rattle.arena.specs.declared.Visited.{Visited}
-use Rattle.arena.specs.declared.Visited.TheVariants as visited
 use Rattle.versions.specs.Version.{visit_of}
 use Rattle.validate.specs.declared.Carried.{Carried}
-use Rattle.validate.specs.declared.RecordOpened.TheVariants.{More}
 use Rattle.validate.specs.Walk.{Inputs, placed, value_of, progress_for, entry_asked}
-use Rattle.validate.specs.Internal.{State, Asked, more, no_more, progress_of, asked_from, record_asked, step_asked, asked_at, inputs_with, state_in, Held, Lies, entry_in, asked_for}
+use Rattle.validate.specs.Internal.{State, progress_of, asked_from, record_asked, step_asked, asked_at, inputs_with, state_in, Held, Lies, entry_in}
+
+-- ---- question 13
+
+same_err : {A : Type 0} {x y : Refusal} → ◌≡◌ {A = Result A Refusal} (Err x) (Err y) → x ≡ y
+same_err e = cc
+
+-- what a `?` hands on
+pub handed_on : {A : Type 0} (r : Result A Refusal) (x : Refusal) → IsErrAnd r (λ y. y ≡ x) → r ≡ Err x
+handed_on r x is =
+    let p = err_from_is_err_and r is in
+    p.1 ∙ ap (λ (z : Refusal). Err z) p.2
+
+-- a question that is answered with no, and one that is answered with yes
+pub answered_no : (b : Bool) (e x : Refusal) → Err x ≡ ask_of b e → (b ≡ false) × (x ≡ e)
+unfolding when◌then◌else◌
+answered_no true e x q = refused_ok q
+answered_no false e x q = (refl, same_err q)
+
+pub answered_yes : (b : Bool) (e : Refusal) (x : Unit {0}) → Ok x ≡ ask_of b e → b ≡ true
+unfolding when◌then◌else◌
+answered_yes true e x q = refl
+answered_yes false e x q = refused_ok (sym q)
+
+-- a question of 13 in front of an answer that only 13 refuses
+only_13 : {A : Type 0} (b : Bool) (r : Result A Refusal) (x : Refusal) → (when b then r else Err refusal.Entry) ≡ Err x
+    → (r ≡ Err x → x ≡ refusal.Entry) → x ≡ refusal.Entry
+unfolding when◌then◌else◌
+only_13 true r x e h = h e
+only_13 false r x e h = sym (same_err e)
+
+kind_refused : (n : ℕ) (x : Refusal) → kind_of n ≡ Err x → x ≡ refusal.Entry
+unfolding kind_of when◌then◌else◌
+kind_refused n x e = go (eqb n 1) (eqb n 2) e
+  where
+    go : (a b : Bool) → (when a then Ok Put else when b then Ok Tombstone else Err refusal.Entry) ≡ Err x → x ≡ refusal.Entry
+    go true b q = refused_ok (sym q)
+    go false true q = refused_ok (sym q)
+    go false false q = sym (same_err q)
+
+header_refused : (s : List ℕ) (end pos : ℕ) (x : Refusal) → entry_header_of s end pos ≡ Err x → x ≡ refusal.Entry
+unfolding entry_header_of entry_header_kind entry_header_for
+header_refused s end pos x e = only_13 _ _ x e (go (kind_of (get_or s pos 0)) (kind_refused (get_or s pos 0) x))
+  where
+    go : (k : Result Kind Refusal) → (k ≡ Err x → x ≡ refusal.Entry) → entry_header_kind s end pos k ≡ Err x → x ≡ refusal.Entry
+    go (Ok k) h q = only_13 _ _ x q (λ p. only_13 _ _ x p (λ r. refused_ok (sym r)))
+    go (Err y) h q = h (ap (λ (z : Refusal). Err z) (same_err q))
+
+-- an entry that does not stand is refused by 13
+record_refused : (s : List ℕ) (end pos keyLen : ℕ) (x : Refusal) → record_at s end pos keyLen ≡ Err x → x ≡ refusal.Entry
+unfolding record_at record_at_for
+record_refused s end pos keyLen x e = go (entry_header_of s end pos) (header_refused s end pos x) e
+  where
+    go : (h : Result EntryHeader Refusal) → (h ≡ Err x → x ≡ refusal.Entry) → record_at_for pos keyLen h ≡ Err x → x ≡ refusal.Entry
+    go (Ok h) f q = only_13 _ _ x q (λ p. refused_ok (sym p))
+    go (Err y) f q = f (ap (λ (z : Refusal). Err z) (same_err q))
 
 -- behind a record that was visited
-visited_at : ℕ → State → Entry → Visited → Asked
+visited_at : ℕ → State → Entry → Result Cursor Refusal → Result (ℕ × State) Refusal
 visited_at next st e v = asked_from next e.key (progress_for (progress_of st) e v)
 
 -- ---- the keys in the scratch
@@ -44,33 +106,31 @@ visit_parts s o end c scratch half p k seq kind place value =
     let m : k - 0 ≡ k = omega arith in
     λ i. visit_of s o end c (take (n i) (drop half scratch)) (record { key = take (m i) scratch; seq = seq; kind = kind; place = place; size = length value }) value
 
--- a turn of the loop that copies the front behind the half: what is left to store from there is what was left before
-pub keep_step : (now was : List ℕ) (half count i : ℕ) → i < count → count ≤ length was → get_or now i 0 ≡ get_or was i 0
-    → sets (set now (half + i) (get_or now i 0)) (half + (i + 1)) (take (count - (i + 1)) (drop (i + 1) was)) ≡ sets now (half + i) (take (count - i) (drop i was))
-keep_step now was half count i h l e =
-    let a : 0 + i ≡ i = omega arith in
-    let b : 0 + (i + 1) ≡ i + 1 = omega arith in
-    let t = copy_step now was half 0 count i h (omega arith) in
-    ap (λ (x : ℕ). sets (set now (half + i) x) (half + (i + 1)) (take (count - (i + 1)) (drop (i + 1) was))) e ∙ (rw (a, b) at t)
+-- the key that is copied behind its half
+pub key_kept : (s front back copy : List ℕ) (half count : ℕ) → count ≤ half → half + half ≤ length s → front ≡ take half s → back ≡ drop half s → copy ≡ take count front
+    → front ++ (copy ++ drop count back) ≡ sets s half (take count s)
+key_kept s front back copy half count h l f b c =
+    let p : copy ≡ take count s = c ∙ ap (take count) f ∙ take-take count half s h in
+    rw (p, f, b) (copied s (take count s) half count (omega arith) (length-take-le count s (omega arith)))
 
-module _ (half : ℕ) (scratch : List ℕ) (w : Carried) (next n : ℕ) (c : Cursor) (h : n ≤ half) (l : half + half ≤ length scratch) where
+module _ (half : ℕ) (scratch : List ℕ) (w : Carried) (n : ℕ) (c : Cursor) (h : n ≤ half) (l : half + half ≤ length scratch) where
   -- a key's first record leaves its key as the last one
   pub moved_first : (kept : List ℕ) → kept ≡ sets scratch half (take n scratch) → w.cursor.remaining ≡ 0
-      → asked_for half kept (More next (record { key_len = n; previous_len = n; cursor = c }))
-      ≡ more next (record { key = take n scratch; previous = when◌then◌else◌ (eqb w.cursor.remaining 0) (take n scratch) (take w.previous_len (drop half scratch)); cursor = c })
-  unfolding asked_for state_in when◌then◌else◌
+      → state_in half kept (record { key_len = n; previous_len = n; cursor = c })
+      ≡ record { key = take n scratch; previous = when◌then◌else◌ (eqb w.cursor.remaining 0) (take n scratch) (take w.previous_len (drop half scratch)); cursor = c }
+  unfolding state_in when◌then◌else◌
   moved_first kept k z =
       let m : length (take n scratch) ≡ n = length-take-le n scratch (omega arith) in
       let front : take n kept ≡ take n scratch = ap (take n) k ∙ part_sets_before (take n scratch) scratch half 0 n (omega arith) in
       let behind : take n (drop half kept) ≡ take n scratch =
       ap (λ (j : ℕ). take j (drop half kept)) (sym m) ∙ ap (λ (l : List ℕ). take (length (take n scratch)) (drop half l)) k ∙ part_sets_same (take n scratch) scratch half (omega arith) in
-      rw (eq-eqb w.cursor.remaining 0 z) (λ i. more next (record { key = front i; previous = behind i; cursor = c }))
+      rw (eq-eqb w.cursor.remaining 0 z) (λ i. record { key = front i; previous = behind i; cursor = c })
 
   -- another leaves the last key
   pub moved_later : (w.cursor.remaining ≡ 0 → ⊥)
-      → asked_for half scratch (More next (record { key_len = n; previous_len = w.previous_len; cursor = c }))
-      ≡ more next (record { key = take n scratch; previous = when◌then◌else◌ (eqb w.cursor.remaining 0) (take n scratch) (take w.previous_len (drop half scratch)); cursor = c })
-  unfolding asked_for state_in when◌then◌else◌
+      → state_in half scratch (record { key_len = n; previous_len = w.previous_len; cursor = c })
+      ≡ record { key = take n scratch; previous = when◌then◌else◌ (eqb w.cursor.remaining 0) (take n scratch) (take w.previous_len (drop half scratch)); cursor = c }
+  unfolding state_in when◌then◌else◌
   moved_later z = rw (ne_eqb w.cursor.remaining 0 z)
 
 -- a key that is held is as long as it says
@@ -107,16 +167,20 @@ module _ (s «data» : List ℕ) (o : Opened) (end half offset : ℕ) (raw scrat
   limits t q = ap (λ (n : ℕ). within_limits n r.size) entry_length ∙ q
 
   -- question 14 fails
-  pub asked_14 : within_limits r.key_len r.size ≡ false
-      → no_more 14 ≡ record_asked (inputs_with s «data» o end half) (state_in half scratch w) r.next (placed offset (entry_in raw (take w.key_len scratch) r))
+  pub asked_14 : (n : Refusal) → Err n ≡ ask_of (within_limits r.key_len r.size) refusal.Limits
+      → Err n ≡ record_asked (inputs_with s «data» o end half) (state_in half scratch w) r.next (placed offset (entry_in raw (take w.key_len scratch) r))
   unfolding record_asked entry_asked asked_from when◌then◌else◌ entry
-  asked_14 q = rw (limits false q)
+  asked_14 n x =
+      let q = answered_no _ _ _ x in
+      rw (q.1, limits false q.0)
 
   -- question 15 fails
-  pub asked_15 : within_limits r.key_len r.size ≡ true → half < r.key_len
-      → no_more 15 ≡ record_asked (inputs_with s «data» o end half) (state_in half scratch w) r.next (placed offset (entry_in raw (take w.key_len scratch) r))
+  pub asked_15 : (n : Refusal) → within_limits r.key_len r.size ≡ true → Err n ≡ ask_of (leb r.key_len half) refusal.KeyRoom
+      → Err n ≡ record_asked (inputs_with s «data» o end half) (state_in half scratch w) r.next (placed offset (entry_in raw (take w.key_len scratch) r))
   unfolding record_asked entry_asked asked_from when◌then◌else◌ entry
-  asked_15 q m = rw (limits true q, lt-leb (length entry.key) half (rw entry_length m))
+  asked_15 n q x =
+      let m = answered_no _ _ _ x in
+      rw (m.1, limits true q, ap (λ (k : ℕ). leb k half) entry_length ∙ m.0)
 
   module _ (q : within_limits r.key_len r.size ≡ true) (m : r.key_len ≤ half) (copied : List ℕ)
       (z : copied ≡ sets scratch r.shared (take (r.key_len - r.shared) (drop (r.place - (r.key_len - r.shared)) raw)))
@@ -149,7 +213,7 @@ module _ (s «data» : List ℕ) (o : Opened) (end half offset : ℕ) (raw scrat
           ap (λ (k : ℕ). length (take k (drop (offset + r.place) «data»))) n
           ∙ part_length «data» (offset + r.place) r.size (omega (arith, i.inside))
 
-      module _ (v : Visited)
+      module _ (v : Result Cursor Refusal)
           (g : v ≡ visit_of s o end w.cursor (take w.previous_len (drop half copied))
           (record {
             key = take r.key_len copied;
@@ -174,41 +238,44 @@ module _ (s «data» : List ℕ) (o : Opened) (end half offset : ℕ) (raw scrat
           asked-visited = ap (visited_at r.next (state_in half scratch w) entry) visited-entry ∙ sym asked-visit
 
           -- the visit refuses
-          pub asked_refused : (n : ℕ) → v ≡ visited.Refused n
-              → no_more n ≡ record_asked (inputs_with s «data» o end half) (state_in half scratch w) r.next (placed offset (entry_in raw (take w.key_len scratch) r))
+          pub asked_refused : (n : Refusal) → v ≡ Err n
+              → Err n ≡ record_asked (inputs_with s «data» o end half) (state_in half scratch w) r.next (placed offset (entry_in raw (take w.key_len scratch) r))
           unfolding visited_at progress_for asked_from entry
           asked_refused n x = sym (ap (visited_at r.next (state_in half scratch w) entry) x) ∙ asked-visited
 
           -- the visit goes on
-          pub asked_went : (d : Cursor) → v ≡ visited.Went d
-              → more r.next
-              (record {
-                key = take r.key_len copied;
-                previous = when◌then◌else◌ (eqb w.cursor.remaining 0) (take r.key_len copied) (take w.previous_len (drop half copied));
-                cursor = d;
-              })
+          pub asked_went : (d : Cursor) → v ≡ Ok d
+              → Ok (
+                r.next,
+                record {
+                  key = take r.key_len copied;
+                  previous = when◌then◌else◌ (eqb w.cursor.remaining 0) (take r.key_len copied) (take w.previous_len (drop half copied));
+                  cursor = d;
+                },
+              )
               ≡ record_asked (inputs_with s «data» o end half) (state_in half scratch w) r.next (placed offset (entry_in raw (take w.key_len scratch) r))
           unfolding visited_at progress_for progress_of asked_from state_in entry
           asked_went d x =
-              (λ y. more r.next (record { key = front y; previous = when◌then◌else◌ (eqb w.cursor.remaining 0) (front y) (behind y); cursor = d }))
+              (λ y. Ok (r.next, record { key = front y; previous = when◌then◌else◌ (eqb w.cursor.remaining 0) (front y) (behind y); cursor = d }))
               ∙ sym (ap (visited_at r.next (state_in half scratch w) entry) x)
               ∙ asked-visited
 
 module _ (t : Inputs) (offset : ℕ) (raw : List ℕ) (entriesEnd pos half : ℕ) (scratch : List ℕ) (w : Carried) (k : length (take w.key_len scratch) ≡ w.key_len) where
   -- question 13 fails
-  pub asked_13 : record_at raw entriesEnd pos w.key_len ≡ Stopped → no_more 13 ≡ asked_at t offset raw entriesEnd pos (state_in half scratch w)
-  unfolding asked_at step_asked state_in stepped_number
-  asked_13 e =
-      sym (ap (step_asked t offset (state_in half scratch w)) (step_stop raw entriesEnd pos (take w.key_len scratch) (ap (record_at raw entriesEnd pos) k ∙ e)))
+  pub asked_13 : (n : Refusal) → record_at raw entriesEnd pos w.key_len ≡ Err n → Err n ≡ asked_at t offset raw entriesEnd pos (state_in half scratch w)
+  unfolding asked_at step_asked state_in
+  asked_13 n e =
+      ap (λ (x : Refusal). Err x) (record_refused raw entriesEnd pos w.key_len n e)
+      ∙ sym (ap (step_asked t offset (state_in half scratch w)) (step_stop raw entriesEnd pos (take w.key_len scratch) n (ap (record_at raw entriesEnd pos) k ∙ e)))
 
   -- a record that is met lies in the block
-  pub met_lies : (r : Record) → entriesEnd ≤ length raw → record_at raw entriesEnd pos w.key_len ≡ Met r → Lies (length raw) w.key_len r
+  pub met_lies : (r : Record) → entriesEnd ≤ length raw → record_at raw entriesEnd pos w.key_len ≡ Ok r → Lies (length raw) w.key_len r
   met_lies r l e =
       let i = record_inside raw entriesEnd pos w.key_len r e in
       record { shared = i.shared; longer = i.longer; own = omega (arith, i.place); inside = omega (arith, i.next, i.inside) }
 
   -- and goes on to question 14
-  pub asked_met : (r : Record) → record_at raw entriesEnd pos w.key_len ≡ Met r
+  pub asked_met : (r : Record) → record_at raw entriesEnd pos w.key_len ≡ Ok r
       → record_asked t (state_in half scratch w) r.next (placed offset (entry_in raw (take w.key_len scratch) r))
       ≡ asked_at t offset raw entriesEnd pos (state_in half scratch w)
   unfolding asked_at step_asked state_in entry_in entry_of

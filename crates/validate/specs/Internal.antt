@@ -1,20 +1,14 @@
 -- Not on the reading path: what the contracts of private functions speak of. A step of the walk with the key before it in the block,
 -- and the walk's keys as they lie in the lent key scratch, the key before in the block at its front, the last key of the arena behind its half.
-use Rattle.std.specs.Prelude.{◌≡◌, true, ℕ, ◌-◌, ◌+◌, ◌≤◌, List, ◌++◌, length, take, drop}
-use Rattle.crc32.specs.Table.{is_table}
-use Rattle.num.specs.Answer.{Answer, given, refused}
+use Rattle.std.specs.Prelude.{ℕ, ◌-◌, ◌+◌, ◌≤◌, List, ◌++◌, length, take, drop, Result, Ok, Err}
+use Rattle.refusal.specs.declared.Refusal.{Refusal}
+use Rattle.refusal.specs.declared.Refusal.TheVariants as refusal
 use Rattle.arena.specs.declared.Cursor.{Cursor}
 use Rattle.arena.specs.Internal.{Readable, Inside}
 use Rattle.block.specs.declared.Record.{Record}
-use Rattle.block.specs.declared.Stepped.TheVariants.{Stopped}
-use Rattle.block.specs.Record.{stepped_number}
 use Rattle.block.specs.Walk.{Entry, Step, met, stop, step_of}
 use Rattle.header.specs.declared.Opened.{Opened}
 use Rattle.validate.specs.declared.Carried.{Carried}
-use Rattle.validate.specs.declared.RecordOpened.{RecordOpened}
-use Rattle.validate.specs.declared.RecordOpened.TheVariants as record-opened
-use Rattle.validate.specs.declared.BlockOpened.{BlockOpened}
-use Rattle.validate.specs.declared.BlockOpened.TheVariants as block
 use Rattle.validate.specs.Walk.{Inputs, Progress, placed, entry_asked}
 
 -- what the walk carries: the key before in the block, the last key of the arena, and the cursor
@@ -27,26 +21,21 @@ pub record State : Type 0 where
 unfoldable pub progress_of : State → Progress
 progress_of st = record { previous = st.previous; cursor = st.cursor }
 
--- behind one record: the place of the next with the state, or the number of the question that failed
-pub data Asked : Type 0 where
-  more : ℕ → State → Asked
-  no_more : ℕ → Asked
-
--- behind a record: the key is the one before from now on
-unfoldable pub asked_from : ℕ → List ℕ → Answer Progress → Asked
-asked_from next key (refused n) = no_more n
-asked_from next key (given p) = more next (record { key = key; previous = p.previous; cursor = p.cursor })
+-- behind a record, the place of the next with the state: the key is the one before from now on
+unfoldable pub asked_from : ℕ → List ℕ → Result Progress Refusal → Result (ℕ × State) Refusal
+asked_from next key (Err n) = Err n
+asked_from next key (Ok p) = Ok (next, record { key = key; previous = p.previous; cursor = p.cursor })
 
 -- questions 14 to 21 of a record
-unfoldable pub record_asked : Inputs → State → ℕ → Entry → Asked
+unfoldable pub record_asked : Inputs → State → ℕ → Entry → Result (ℕ × State) Refusal
 record_asked t st next e = asked_from next e.key (entry_asked t (progress_of st) e)
 
 -- questions 13 to 21 of the record at a place of a block that starts at an offset of the data
-unfoldable pub step_asked : Inputs → ℕ → State → Step → Asked
-step_asked t offset st stop = no_more (stepped_number Stopped)
+unfoldable pub step_asked : Inputs → ℕ → State → Step → Result (ℕ × State) Refusal
+step_asked t offset st stop = Err refusal.Entry  -- 13
 step_asked t offset st (met e next) = record_asked t st next (placed offset e)
 
-unfoldable pub asked_at : Inputs → ℕ → List ℕ → ℕ → ℕ → State → Asked
+unfoldable pub asked_at : Inputs → ℕ → List ℕ → ℕ → ℕ → State → Result (ℕ × State) Refusal
 asked_at t offset raw entriesEnd pos st = step_asked t offset st (step_of raw entriesEnd pos st.key)
 
 -- a store with the arena's end and half the key scratch as numbers
@@ -68,23 +57,22 @@ pub record Held (half : ℕ) (w : Carried) : Type 0 where
   pub key : w.key_len ≤ half
   pub previous : w.previous_len ≤ half
 
--- what the walk counts on: the CRC tables, a record that was read from the section, a cursor inside its arena, and the keys in the scratch
-pub record Ready (tables : List (List ℕ)) (s : List ℕ) (o : Opened) (end half : ℕ) (scratch : List ℕ) (w : Carried) : Type 0 where
-  pub table : is_table tables ≡ true
+-- what the walk counts on: a record that was read from the section, a cursor inside its arena, and the keys in the scratch
+pub record Ready (s : List ℕ) (o : Opened) (end half : ℕ) (scratch : List ℕ) (w : Carried) : Type 0 where
   pub readable : Readable s o
   pub inside : Inside s o end w.cursor
   pub halves : half + half ≤ length scratch
   pub held : Held half w
 
 -- what is answered behind a record, read back from the scratch
-unfoldable pub asked_for : ℕ → List ℕ → RecordOpened → Asked
-asked_for half scratch (record-opened.More next w) = more next (state_in half scratch w)
-asked_for half scratch (record-opened.Refused n) = no_more n
+unfoldable pub asked_for : ℕ → List ℕ → Result (ℕ × Carried) Refusal → Result (ℕ × State) Refusal
+asked_for half scratch (Ok (next, w)) = Ok (next, state_in half scratch w)
+asked_for half scratch (Err n) = Err n
 
 -- both keys lie in their halves behind a record
-abbrev pub RecordHeld : ℕ → RecordOpened → Type 0
-RecordHeld half (record-opened.More next w) = Held half w
-RecordHeld half (record-opened.Refused n) = Unit {0}
+abbrev pub RecordHeld : ℕ → Result (ℕ × Carried) Refusal → Type 0
+RecordHeld half (Ok (next, w)) = Held half w
+RecordHeld half (Err n) = Unit {0}
 
 -- a record of a block of a length, behind a key of a length
 pub record Lies (len keyLen : ℕ) (r : Record) : Type 0 where
@@ -105,10 +93,10 @@ entry_in raw prev r =
     }
 
 -- behind a block
-abbrev pub BlockHeld : ℕ → BlockOpened → Type 0
-BlockHeld half (block.Passed w) = Held half w
-BlockHeld half (block.Refused n) = Unit {0}
+abbrev pub BlockHeld : ℕ → Result Carried Refusal → Type 0
+BlockHeld half (Ok w) = Held half w
+BlockHeld half (Err n) = Unit {0}
 
-unfoldable pub answer_for : ℕ → List ℕ → BlockOpened → Answer Progress
-answer_for half scratch (block.Passed w) = given (progress_in half scratch w)
-answer_for half scratch (block.Refused n) = refused n
+unfoldable pub answer_for : ℕ → List ℕ → Result Carried Refusal → Result Progress Refusal
+answer_for half scratch (Ok w) = Ok (progress_in half scratch w)
+answer_for half scratch (Err n) = Err n

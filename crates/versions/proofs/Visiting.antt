@@ -8,20 +8,20 @@ use native.Mathlib.Nat.{suc-mul}
 use native.Mathlib.Omega.{arith}
 use lib.Dec.{eqb}
 use borrow.Author.Tests.{eqb-true, eqb-false, eq-eqb, ne_eqb}
+use Rattle.std.specs.Prelude.{Result, Ok, Err}
+use Rattle.refusal.specs.declared.Refusal.{Refusal}
 use Rattle.num.specs.Choice.{when◌then◌else◌}
 use Rattle.block.specs.Walk.{Entry}
 use Rattle.encoding.specs.Encoding.{version_len_of}
 use Rattle.header.specs.declared.Opened.{Opened}
 use Rattle.arena.specs.declared.Cursor.{Cursor}
-use Rattle.arena.specs.declared.Visited.{Visited}
-use Rattle.arena.specs.declared.Visited.TheVariants.{Went, Refused}
 use Rattle.arena.specs.Internal.{Readable, Inside}
 use Rattle.arena.specs.Key.{key_of}
 use Rattle.versions.specs.Version.{version_agrees, checksum_agrees, advanced, version_for, visit_of}
 use Rattle.arena.proofs.Entering.{refused_went, passed, key_inside}
 
 -- a version that passes questions 20 and 21, and the cursor behind it
-pub version_advanced : (s : List ℕ) (o : Opened) (e : Entry) (value : List ℕ) (c d : Cursor) → version_for s o e value (Went c) ≡ Went d
+pub version_advanced : (s : List ℕ) (o : Opened) (e : Entry) (value : List ℕ) (c d : Cursor) → version_for s o e value (Ok c) ≡ Ok d
     → (version_agrees s o c e ≡ true) × (checksum_agrees s o c value ≡ true) × (advanced o c e.seq ≡ d)
 unfolding version_for
 version_advanced s o e value c d t =
@@ -31,7 +31,7 @@ version_advanced s o e value c d t =
 
 -- a visit in a key is that of its next version
 pub visit_more : (s : List ℕ) (o : Opened) (end : ℕ) (c : Cursor) (previous : List ℕ) (e : Entry) (value : List ℕ) → (c.remaining ≡ 0 → ⊥)
-    → visit_of s o end c previous e value ≡ version_for s o e value (Went c)
+    → visit_of s o end c previous e value ≡ version_for s o e value (Ok c)
 unfolding visit_of when◌then◌else◌
 visit_more s o end c previous e value n = rw (ne_eqb _ _ n)
 
@@ -42,11 +42,11 @@ unfolding visit_of when◌then◌else◌
 visit_first s o end c previous e value z = rw (eq-eqb _ _ z)
 
 -- a version follows a key that was entered
-version_behind : (s : List ℕ) (o : Opened) (e : Entry) (value : List ℕ) (v : Visited) (d : Cursor) → version_for s o e value v ≡ Went d
-    → (m : Cursor) × (v ≡ Went m) × (version_for s o e value (Went m) ≡ Went d)
+version_behind : (s : List ℕ) (o : Opened) (e : Entry) (value : List ℕ) (v : Result Cursor Refusal) (d : Cursor) → version_for s o e value v ≡ Ok d
+    → (m : Cursor) × (v ≡ Ok m) × (version_for s o e value (Ok m) ≡ Ok d)
 unfolding version_for
-version_behind s o e value (Went m) d t = (m, refl, t)
-version_behind s o e value (Refused n) d t = refused_went n d t
+version_behind s o e value (Ok m) d t = (m, refl, t)
+version_behind s o e value (Err n) d t = refused_went n d t
 
 advanced_inside : (s : List ℕ) (o : Opened) (end : ℕ) (c : Cursor) (seq : ℕ) → Inside s o end c → 1 ≤ c.remaining → Inside s o end (advanced o c seq)
 unfolding advanced
@@ -68,13 +68,13 @@ advanced_inside s o end c seq i h =
     }
 
 version_inside : (s : List ℕ) (o : Opened) (end : ℕ) (e : Entry) (value : List ℕ) (c d : Cursor) → Inside s o end c → 1 ≤ c.remaining
-    → version_for s o e value (Went c) ≡ Went d → Inside s o end d
+    → version_for s o e value (Ok c) ≡ Ok d → Inside s o end d
 version_inside s o end e value c d i h t =
     subst (Inside s o end) (version_advanced s o e value c d t).2 (advanced_inside s o end c e.seq i h)
 
 -- a visit that goes on stays in the arena
 pub visit_inside : (s : List ℕ) (o : Opened) (end : ℕ) (c : Cursor) (previous : List ℕ) (e : Entry) (value : List ℕ) (d : Cursor)
-    → Readable s o → Inside s o end c → visit_of s o end c previous e value ≡ Went d → Inside s o end d
+    → Readable s o → Inside s o end c → visit_of s o end c previous e value ≡ Ok d → Inside s o end d
 visit_inside s o end c previous e value d r i t = go (eqb c.remaining 0) refl
   where
     go : (b : Bool) → eqb c.remaining 0 ≡ b → Inside s o end d

@@ -1,8 +1,10 @@
 -- A record beside the version at the cursor: questions 20 and 21.
-use Rattle.std.specs.Prelude.{ℕ, ◌+◌, ◌-◌, ◌%◌, ◌^◌, List, ◌++◌, Bool, true, false, not, eqb, leb, ltb, take, drop}
+use Rattle.std.specs.Prelude.{ℕ, ◌+◌, ◌-◌, ◌%◌, ◌^◌, List, ◌++◌, Bool, true, false, not, eqb, leb, ltb, take, drop, Result, Ok, Err}
 use Rattle.num.specs.Choice.{when◌then◌else◌, ask◌otherwise◌then◌, both, either}
 use Rattle.num.specs.Number.{le_at}
 use Rattle.num.specs.Order.{equal_bytes}
+use Rattle.refusal.specs.declared.Refusal.{Refusal}
+use Rattle.refusal.specs.declared.Refusal.TheVariants as refusal
 use Rattle.crc32.specs.V42.{crc_of}
 use Rattle.sstable.specs.declared.Kind.{Kind}
 use Rattle.sstable.specs.declared.Kind.TheVariants.{Put, Tombstone}
@@ -10,8 +12,6 @@ use Rattle.block.specs.Walk.{Entry}
 use Rattle.encoding.specs.Encoding.{version_len_of, tombstone_of}
 use Rattle.header.specs.declared.Opened.{Opened}
 use Rattle.arena.specs.declared.Cursor.{Cursor}
-use Rattle.arena.specs.declared.Visited.{Visited}
-use Rattle.arena.specs.declared.Visited.TheVariants.{Went, Refused}
 use Rattle.arena.specs.Key.{key_of}
 
 -- the key that the cursor stands in: the anchor's shared part and the suffix
@@ -83,18 +83,18 @@ advanced o c seq =
     }
 
 -- questions 20 and 21 of a record whose key the cursor stands in
-unfoldable pub version_for : List ℕ → Opened → Entry → List ℕ → Visited → Visited
-version_for s o e value (Refused n) = Refused n
-version_for s o e value (Went c) =
-    ask version_agrees s o c e otherwise Refused 20 then
-    ask checksum_agrees s o c value otherwise Refused 21 then
-    Went (advanced o c e.seq)
+unfoldable pub version_for : List ℕ → Opened → Entry → List ℕ → Result Cursor Refusal → Result Cursor Refusal
+version_for s o e value (Err r) = Err r
+version_for s o e value (Ok c) =
+    ask version_agrees s o c e otherwise Err refusal.Version then  -- 20
+    ask checksum_agrees s o c value otherwise Err refusal.ValueCrc then  -- 21
+    Ok (advanced o c e.seq)
 
 -- questions 16 to 21 of a record with its value's bytes, the value's place counted in the data: 16 to 19 are asked at a key's
 -- first record
-unfoldable pub visit_of : List ℕ → Opened → ℕ → Cursor → List ℕ → Entry → List ℕ → Visited
+unfoldable pub visit_of : List ℕ → Opened → ℕ → Cursor → List ℕ → Entry → List ℕ → Result Cursor Refusal
 visit_of s o end c previous e value =
-    version_for s o e value (when eqb c.remaining 0 then key_of s o end c previous e.key else Went c)
+    version_for s o e value (when eqb c.remaining 0 then key_of s o end c previous e.key else Ok c)
 
 -- for proofs alone: `unfolding version_defs` opens the definitions of this file
 unfoldable pub version_defs : ℕ

@@ -1,16 +1,17 @@
 // A record of the blocks beside the version at the cursor: questions 20 and 21, and behind a key's end 16 to 19 first.
 #![tactic(auto)]
 
-ghost use Rattle.std.specs.Prelude.{◌≡◌, true, not, ◌+◌, ◌*◌, ◌^◌, ◌<◌, ◌≤◌, eqb, ltb, length};
+ghost use Rattle.std.specs.Prelude.{◌≡◌, true, not, ◌+◌, ◌*◌, ◌^◌, ◌<◌, ◌≤◌, eqb, ltb, length, Ok};
 ghost use Rattle.num.specs.Choice.{both, either};
 ghost use Rattle.num.specs.Order.{equal_bytes};
-ghost use Rattle.crc32.specs.Table.{is_table};
 ghost use Rattle.encoding.specs.Encoding.{Widths, version_len_of, tombstone_of};
 ghost use Rattle.arena.specs.Internal.{Readable, Inside, Standing};
 ghost use Rattle.versions.specs.Version.{stored_key, kind_in, length_in, same_kind, seq_agrees, version_agrees, checksum_agrees, advanced, version_for, visit_of};
 
-use arena::{Cursor, Visited};
+use arena::Cursor;
 use header::Opened;
+use num::LittleEndian;
+use refusal::{Refusal, ask};
 use sstable::Kind;
 
 // A record of a block beside its key: sequence, kind, and the place of its value in the data.
@@ -35,12 +36,11 @@ fn stored_key_equal(section: &[u8], o: Opened, c: Cursor, key: &[u8]) -> bool
     }
     let anchor = o.arena + c.anchor;
     let anchor_end = anchor + shared;
-    if !sstable::keys_equal(&key[0..shared], &section[anchor..anchor_end]) {
+    if key[..shared] != section[anchor..anchor_end] {
         return false;
     }
-    let suffix = c.suffix;
-    let suffix_end = suffix + c.suffix_len;
-    sstable::keys_equal(&key[shared..], &section[suffix..suffix_end])
+    let suffix_end = c.suffix + c.suffix_len;
+    key[shared..] == section[c.suffix..suffix_end]
 }
 
 // A key's versions have falling sequences.
@@ -122,14 +122,7 @@ fn version_agrees(
 }
 
 // Question 21.
-fn checksum_agrees(
-    table: &[[u32; 256]; 8],
-    section: &[u8],
-    o: Opened,
-    c: Cursor,
-    value: &[u8],
-) -> bool
-    requires table_value { is_table table.now ≡ true }
+fn checksum_agrees(section: &[u8], o: Opened, c: Cursor, value: &[u8]) -> bool
     requires widths { Widths o.encoding }
     requires standing { Standing section.now o c }
     ensures { result ≡ checksum_agrees section.now o c value.now }
@@ -139,7 +132,7 @@ fn checksum_agrees(
         return true;
     }
     let at = c.pos + e.seq + e.value + e.address;
-    num::u32_at(section, at) == crc32::crc32_with(table, value)
+    u32::read(section, at) == crc32::crc32(value)
 }
 
 // The cursor behind the version.
@@ -148,49 +141,40 @@ fn advanced(o: Opened, c: Cursor, seq: u64) -> Cursor
     requires le_remaining { (1 ≤ c.remaining) × (c.pos + version_len_of o.encoding < 2 ^ 64) }
     ensures { result ≡ advanced o c seq }
 {
-    let e = o.encoding;
     Cursor {
-        pos: c.pos + e.version(),
-        groups: c.groups,
+        pos: c.pos + o.encoding.version(),
         remaining: c.remaining - 1,
-        anchor: c.anchor,
-        anchor_len: c.anchor_len,
-        shared: c.shared,
-        suffix: c.suffix,
-        suffix_len: c.suffix_len,
-        prefixes: c.prefixes,
         last_seq: seq,
         first: false,
+        ..c
     }
 }
 
 // Questions 20 and 21 of a record whose key the cursor stands in.
+#[tactic(auto, unfolding(crate::specs::Version::version_for, num::specs::Choice::choice_defs))]
 fn version_record(
-    table: &[[u32; 256]; 8],
     section: &[u8],
     o: Opened,
     c: Cursor,
     key: &[u8],
     value: &[u8],
     found: RecordInfo,
-) -> Visited
-    requires table_value { is_table table.now ≡ true }
+) -> Result<Cursor, Refusal>
     requires widths { Widths o.encoding }
     requires standing { Standing section.now o c }
-    ensures { result ≡ version_for section.now o (record { key = key.now; seq = found.seq; kind = found.kind; place = found.place; size = length value.now }) value.now (Visited.Went c) }
+    ensures { result ≡ version_for section.now o (record { key = key.now; seq = found.seq; kind = found.kind; place = found.place; size = length value.now }) value.now (Ok c) }
 {
-    if !version_agrees(section, o, c, key, value.len(), found) {
-        return Visited::Refused(20);
-    }
-    if !checksum_agrees(table, section, o, c, value) {
-        return Visited::Refused(21);
-    }
-    Visited::Went(advanced(o, c, found.seq))
+    ask(
+        version_agrees(section, o, c, key, value.len(), found),
+        Refusal::Version,
+    )?;
+    ask(checksum_agrees(section, o, c, value), Refusal::ValueCrc)?;
+    Ok(advanced(o, c, found.seq))
 }
 
 // Questions 16 to 21 of a record with its key and its value's bytes, behind the last key.
+#[tactic(auto, using(arena::proofs::Entering::key_inside, arena::proofs::Reading::inside_standing), unfolding(crate::specs::Version::visit_of, crate::specs::Version::version_for, num::specs::Choice::choice_defs))]
 pub fn visit(
-    table: &[[u32; 256]; 8],
     section: &[u8],
     o: Opened,
     end: usize,
@@ -199,18 +183,14 @@ pub fn visit(
     key: &[u8],
     value: &[u8],
     found: RecordInfo,
-) -> Visited
-    requires table_value { is_table table.now ≡ true }
+) -> Result<Cursor, Refusal>
     requires readable { Readable section.now o }
     requires inside { Inside section.now o end c }
     ensures { result ≡ visit_of section.now o end c previous.now (record { key = key.now; seq = found.seq; kind = found.kind; place = found.place; size = length value.now }) value.now }
 {
     if c.remaining != 0 {
-        return version_record(table, section, o, c, key, value, found);
+        return version_record(section, o, c, key, value, found);
     }
-    let met = arena::key_record(section, o, end, c, previous, key);
-    match met {
-        Visited::Went(d) => version_record(table, section, o, d, key, value, found),
-        Visited::Refused(n) => Visited::Refused(n),
-    }
+    let entered = arena::key_record(section, o, end, c, previous, key)?;
+    version_record(section, o, entered, key, value, found)
 }

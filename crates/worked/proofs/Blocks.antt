@@ -3,11 +3,11 @@
 use mathlib.Core.Path.{◌≡◌, refl}
 use mathlib.Core.List.{[]}
 use lib.ListN.{length}
+use Rattle.std.specs.Prelude.{Ok}
 use Rattle.num.specs.Choice.{choice_defs}
 use Rattle.num.specs.Number.{le_at}
 use Rattle.crc32.specs.V42.{crc_defs}
 use Rattle.sstable.specs.Kind.{kind_of}
-use Rattle.block.specs.declared.Verified.TheVariants.{Sound}
 use Rattle.block.specs.Verify.{verify_of, verify_defs}
 use Rattle.block.specs.EntryHeader.{entry_header_defs}
 use Rattle.block.specs.Record.{record_at_defs}
@@ -20,7 +20,7 @@ unfolding worked_defs
 long = refl
 
 -- question 12 is passed
-sound : verify_of worked_data ≡ Sound (record { entries_end = 69; restart_start = 69; num_restarts = 1 })
+sound : verify_of worked_data ≡ Ok (record { entries_end = 69; restart_start = 69; num_restarts = 1 })
 unfolding worked_defs verify_defs crc_defs choice_defs le_at
 sound = refl
 

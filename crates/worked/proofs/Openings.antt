@@ -5,7 +5,8 @@ use mathlib.Core.Bool.{true, false}
 use mathlib.Core.List.{List, [], ◌∷◌, ◌++◌}
 use Prim.Native.Nat.{ℕ}
 use lib.ListN.{take}
-use Rattle.num.specs.Answer.{refused}
+use Rattle.std.specs.Prelude.{Ok, Err}
+use Rattle.refusal.specs.declared.Refusal.TheVariants as refusal
 use Rattle.num.specs.Choice.{choice_defs}
 use Rattle.num.specs.Number.{le_at, le_bytes}
 use Rattle.num.specs.Order.{less_than, equal_bytes}
@@ -19,7 +20,6 @@ use Rattle.block.specs.Record.{record_at_defs}
 use Rattle.block.specs.Walk.{block_walk_defs}
 use Rattle.point.specs.Hash.{hash_defs}
 use Rattle.encoding.specs.Encoding.{encoding_defs}
-use Rattle.header.specs.declared.HeaderRead.TheVariants.{Accepted, Refused}
 use Rattle.header.specs.Header.{header_defs, packed_record}
 use Rattle.arena.specs.Key.{key_defs}
 use Rattle.versions.specs.Version.{version_defs}
@@ -30,26 +30,26 @@ use Rattle.packed.specs.Packed.{packed_defs, pack_pilot}
 use Rattle.worked.specs.Worked.{worked_defs, worked_data, worked_list, worked_section, worked_scan_section, worked_packed, worked_scan_packed, low_section, opened_with, worked_opened, worked_scan_opened}
 
 -- with a key scratch of 4 bytes
-pub opened : (open_of worked_section worked_data worked_list 4 ≡ Accepted worked_opened) × (open_of worked_scan_section worked_data worked_list 4 ≡ Accepted worked_scan_opened)
+pub opened : (open_of worked_section worked_data worked_list 4 ≡ Ok worked_opened) × (open_of worked_scan_section worked_data worked_list 4 ≡ Ok worked_scan_opened)
 unfolding worked_defs open_defs walk_defs version_defs key_defs header_defs encoding_defs hash_defs limit_defs crc_defs less_than equal_bytes le_at choice_defs trailer_defs verify_defs record_at_defs entry_header_defs block_walk_defs kind_of
 opened = (refl, refl)
 
 -- the least sequence is a base, and no version need have it
-pub opened_low : open_of low_section worked_data worked_list 4 ≡ Accepted (opened_with 2 0)
+pub opened_low : open_of low_section worked_data worked_list 4 ≡ Ok (opened_with 2 0)
 unfolding worked_defs open_defs walk_defs version_defs key_defs header_defs encoding_defs hash_defs limit_defs crc_defs less_than equal_bytes le_at choice_defs trailer_defs verify_defs record_at_defs entry_header_defs block_walk_defs kind_of
 opened_low = refl
 
 -- a key scratch of 3 bytes is 15; an empty block list is 22, and an odd one 11
-pub refusals : (open_of worked_section worked_data worked_list 3 ≡ Refused 15)
-    × (open_of worked_section worked_data [] 4 ≡ Refused 22)
-    × (open_of worked_section worked_data (0 ∷ []) 4 ≡ Refused 11)
+pub refusals : (open_of worked_section worked_data worked_list 3 ≡ Err refusal.KeyRoom)
+    × (open_of worked_section worked_data [] 4 ≡ Err refusal.Ends)
+    × (open_of worked_section worked_data (0 ∷ []) 4 ≡ Err refusal.BlockList)
 unfolding worked_defs open_defs walk_defs version_defs key_defs header_defs encoding_defs hash_defs limit_defs crc_defs less_than equal_bytes le_at choice_defs trailer_defs verify_defs record_at_defs entry_header_defs block_walk_defs kind_of
 refusals = (refl, refl, refl)
 
 -- packed from either section: 130 bytes
 pub packed : (open_packed_of worked_section worked_data worked_list 4 130 ≡ packed_as (packed_record worked_opened) worked_packed)
     × (open_packed_of worked_scan_section worked_data worked_list 4 130 ≡ packed_as (packed_record worked_scan_opened) worked_scan_packed)
-    × (open_packed_of worked_section worked_data worked_list 4 129 ≡ refused 9)
+    × (open_packed_of worked_section worked_data worked_list 4 129 ≡ Err refusal.PackedRoom)
 unfolding worked_defs open_defs walk_defs version_defs key_defs header_defs encoding_defs hash_defs limit_defs crc_defs less_than equal_bytes le_at choice_defs trailer_defs verify_defs record_at_defs entry_header_defs block_walk_defs kind_of packed_defs packing_defs le_bytes
 packed = (refl, refl, refl)
 

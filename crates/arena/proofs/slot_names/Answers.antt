@@ -34,8 +34,8 @@ overflow_add-at c =
     let args = c.args in
     omega (arith, slot_inside _ _ pre.readable args.h, pre.readable.arena_inside, slot_place_lem.ensures)
 
-pub u16_at-requires : goal.u16_at-requires
-u16_at-requires c =
+pub read-requires : goal.read-requires
+read-requires c =
     let slot_place_lem = c.slot_place-at in
     let pre = c.requires in
     let args = c.args in
@@ -48,6 +48,6 @@ returns c =
     let uint = c.uint in
     let slot_place_lem = c.slot_place-at in
     let args = c.args in
-    rw (c.u16_at.ensures.0, c.fingerprint.ensures, slot_place_lem.ensures)
+    rw (c.read.ensures, c.fingerprint.ensures, slot_place_lem.ensures)
     (sym (ap (λ (b : Bool). both b (eqb (le_at args.section.now (slot_place args.section.now args.o args.h + args.o.encoding.address) 2) (fingerprint_of args.h)))
     (eq-eqb _ _ (sym (ap (λ (n : ℕ). le_at args.section.now n args.o.encoding.address) slot_place_lem.ensures) ∙ sym uint.ensures ∙ if1.false))))

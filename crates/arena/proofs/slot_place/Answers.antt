@@ -23,9 +23,9 @@ overflow_add-bucket c =
     let args = c.args in
     omega (arith, pilot_inside _ _ pre args.h, slots_end _ _ pre, pre.arena_inside, c.bucket-bucket.ensures)
 
-pub u32_at-pilot-requires : goal.u32_at-pilot-requires
+pub read-pilot-requires : goal.read-pilot-requires
 unfolding pilot_place
-u32_at-pilot-requires c =
+read-pilot-requires c =
     let pre = c.requires in
     let args = c.args in
     omega (arith, pilot_inside _ _ pre args.h, slots_end _ _ pre, pre.arena_inside, c.bucket-bucket.ensures)
@@ -54,30 +54,30 @@ pub overflow_mul-result-2 : goal.overflow_mul-result-2
 unfolding slot_place pilot_place
 overflow_mul-result-2 c =
     let slot = c.slot-slot in
-    let u32-at = c.u32_at-pilot in
+    let read = c.read-pilot in
     let bucket = c.bucket-bucket in
     let args = c.args in
     let pre = c.requires in
-    let e = ap (λ (n : ℕ). n * (args.o.encoding.address + 2)) (named args.section.now args.o args.h _ _ bucket.ensures u32-at.ensures slot.ensures) in
+    let e = ap (λ (n : ℕ). n * (args.o.encoding.address + 2)) (named args.section.now args.o args.h _ _ bucket.ensures read.ensures slot.ensures) in
     omega (arith, slot_inside _ _ pre args.h, pre.arena_inside)
 
 pub overflow_add-result-3 : goal.overflow_add-result-3
 unfolding slot_place pilot_place
 overflow_add-result-3 c =
     let slot = c.slot-slot in
-    let u32-at = c.u32_at-pilot in
+    let read = c.read-pilot in
     let bucket = c.bucket-bucket in
     let args = c.args in
     let pre = c.requires in
-    let e = ap (λ (n : ℕ). n * (args.o.encoding.address + 2)) (named args.section.now args.o args.h _ _ bucket.ensures u32-at.ensures slot.ensures) in
+    let e = ap (λ (n : ℕ). n * (args.o.encoding.address + 2)) (named args.section.now args.o args.h _ _ bucket.ensures read.ensures slot.ensures) in
     omega (arith, slot_inside _ _ pre args.h, pre.arena_inside)
 
 pub returns : goal.returns
 unfolding slot_place
 returns c =
     let slot = c.slot-slot in
-    let u32-at = c.u32_at-pilot in
+    let read = c.read-pilot in
     let bucket = c.bucket-bucket in
     let args = c.args in
     ap (λ (n : ℕ). 64 + 4 * args.o.buckets + n * (args.o.encoding.address + 2))
-    (named args.section.now args.o args.h _ _ bucket.ensures u32-at.ensures slot.ensures)
+    (named args.section.now args.o args.h _ _ bucket.ensures read.ensures slot.ensures)

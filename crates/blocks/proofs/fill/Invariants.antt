@@ -1,4 +1,4 @@
-use Rattle.std.proofs.Common.{◌-◌, length}
+use Rattle.std.proofs.Common.{length}
 use Rattle.blocks.specs.Blocks.{fill_of}
 use Rattle.blocks.specs.Internal.{written_of}
 use Rattle.blocks.proofs.Writing.{Writing}
@@ -6,6 +6,3 @@ use Rattle.blocks.proofs.fill.Given as goal
 
 abbrev pub invariant-loop-i : goal.invariant-loop-i
 invariant-loop-i l = Writing (written_of (fill_of l.«data» l.blocks (length l.initial.records))) l.initial.records l.records l.i
-
-abbrev pub decreases-loop-i : goal.decreases-loop-i
-decreases-loop-i l = l.count - l.i

@@ -1,10 +1,6 @@
-use Prim.Native.Nat.{◌-◌}
-use lib.ListN.{length}
+use Rattle.std.proofs.Common.{◌*◌}
 use Rattle.blocks.proofs.Pairs.{Asking}
 use Rattle.blocks.proofs.pairs_asked.Given as goal
 
-abbrev pub invariant-loop-i : goal.invariant-loop-i
-invariant-loop-i l = Asking l.«data» l.blocks l.i l.at
-
-abbrev pub decreases-loop-i : goal.decreases-loop-i
-decreases-loop-i l = length l.blocks - l.i
+abbrev pub invariant-loop-pair : goal.invariant-loop-pair
+invariant-loop-pair l = Asking l.«data» l.fn.blocks (2 * l.pair-index) l.at

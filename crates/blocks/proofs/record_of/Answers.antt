@@ -11,14 +11,14 @@ pub overflow_add-offset : goal.overflow_add-offset
 unfolding len_at offset_at
 overflow_add-offset c = let p = c.requires in omega (arith, passed_long _ _ _ p, p.inside)
 
-pub u32_at-num_restarts-requires : goal.u32_at-num_restarts-requires
+pub read-num_restarts-requires : goal.read-num_restarts-requires
 unfolding len_at offset_at
-u32_at-num_restarts-requires c = let p = c.requires in omega (arith, passed_long _ _ _ p, p.inside)
+read-num_restarts-requires c = let p = c.requires in omega (arith, passed_long _ _ _ p, p.inside)
 
 pub overflow_sub-entries_end : goal.overflow_sub-entries_end
 unfolding len_at offset_at
-overflow_sub-entries_end c = let p = c.requires in omega (arith, passed_fitting _ _ _ p _ c.u32_at-num_restarts.ensures)
+overflow_sub-entries_end c = let p = c.requires in omega (arith, passed_fitting _ _ _ p _ c.read-num_restarts.ensures)
 
 pub returns : goal.returns
 unfolding len_at offset_at
-returns c = passed_record _ _ _ c.requires _ c.u32_at-num_restarts.ensures
+returns c = passed_record _ _ _ c.requires _ c.read-num_restarts.ensures

@@ -1,46 +1,36 @@
 use mathlib.Core.Path.{refl, sym, ◌∙◌}
 use lib.ListN.{length}
-use Rattle.opening.proofs.Accepted.{pilots_fit, accepted_readable, start_ready, contents_10, contents_odd, contents_refused, contents_ended}
+use borrow.Author.Tests.{eqb-true}
+use Rattle.refusal.proofs.Asked.{asked_yes}
 use Rattle.header.proofs.Headers.{accepted_long}
+use Rattle.validate.proofs.Record.{handed_on}
+use Rattle.opening.proofs.Accepted.{pilots_fit, accepted_readable, start_ready, contents_refused, contents_ended}
 use Rattle.opening.proofs.contents.Goals as goal
 
 pub pilots_inside-requires : goal.pilots_inside-requires
-pilots_inside-requires c = pilots_fit _ _ c.requires.1
-
-pub returns-then-not-pilots_inside : goal.returns-then-not-pilots_inside
-returns-then-not-pilots_inside c =
-    let a = c.args in
-    let p = c.requires in
-    record { value = contents_10 a.section.now a.«data».now a.blocks.now (length a.scratch.now) a.o (sym c.pilots_inside.ensures ∙ c.if-not-pilots_inside.true); scratch_len_unchanged = refl }
-
-pub returns-then-blocks-ne0 : goal.returns-then-blocks-ne0
-returns-then-blocks-ne0 c =
-    let a = c.args in
-    let p = c.requires in
-    record { value = contents_odd a.section.now a.«data».now a.blocks.now (length a.scratch.now) a.o (sym c.pilots_inside.ensures ∙ c.if-not-pilots_inside.false) c.if-blocks-ne0.true; scratch_len_unchanged = refl }
+pilots_inside-requires c = pilots_fit _ _ c.requires
 
 pub arena_end-end-requires : goal.arena_end-end-requires
-arena_end-end-requires c = accepted_long _ _ c.requires.1
+arena_end-end-requires c = accepted_long _ _ c.requires
 
-pub open_blocks-walked-requires : goal.open_blocks-walked-requires
-open_blocks-walked-requires c =
+pub open_blocks-requires-clause-ready : goal.open_blocks-requires-clause-ready
+open_blocks-requires-clause-ready c =
     let a = c.args in
-    let p = c.requires in record { ready = start_ready a.section.now a.o p.1 (sym c.pilots_inside.ensures ∙ c.if-not-pilots_inside.false) a.table.now a.scratch.now _ _ p.0 c.arena_end-end.ensures c.start.ensures; blocks_len = c.if-blocks-ne0.false }
+    start_ready a.section.now a.o c.requires (sym c.pilots_inside.ensures ∙ asked_yes _ _ c.in_ok-ask.ensures) a.scratch.now _ _ c.arena_end-end.ensures c.start.ensures
+
+pub returns-in_err-at-clause-value : goal.returns-in_err-at-clause-value
+returns-in_err-at-clause-value c =
+    let a = c.args in
+    handed_on _ _ c.from_residual-in_err-at.ensures.1
+    ∙ contents_refused a.section.now a.«data».now a.blocks.now (length a.scratch.now) a.o (sym c.pilots_inside.ensures ∙ asked_yes _ _ c.in_ok-ask.ensures) (eqb-true _ _ (asked_yes _ _ c.in_ok-ask-2.ensures)) _ c.arena_end-end.ensures _ c.start.ensures a.scratch.now _ _ c.in_err-at.ensures _ refl
 
 pub finish-requires : goal.finish-requires
 finish-requires c =
     let a = c.args in
-    let p = c.requires in
-    accepted_readable a.section.now a.o p.1 (sym c.pilots_inside.ensures ∙ c.if-not-pilots_inside.false)
+    accepted_readable a.section.now a.o c.requires (sym c.pilots_inside.ensures ∙ asked_yes _ _ c.in_ok-ask.ensures)
 
-pub returns-in-Ended : goal.returns-in-Ended
-returns-in-Ended c =
+pub returns-clause-value : goal.returns-clause-value
+returns-clause-value c =
     let a = c.args in
-    let p = c.requires in
-    record { value = c.finish.ensures ∙ contents_ended a.section.now a.«data».now a.blocks.now (length a.scratch.now) a.o (sym c.pilots_inside.ensures ∙ c.if-not-pilots_inside.false) c.if-blocks-ne0.false _ c.arena_end-end.ensures _ c.start.ensures a.scratch.now _ _ c.open_blocks-walked.ensures _ _ c.in-Ended.is; scratch_len_unchanged = c.open_blocks-walked.auto.scratch }
-
-pub returns-in-Refused : goal.returns-in-Refused
-returns-in-Refused c =
-    let a = c.args in
-    let p = c.requires in
-    record { value = contents_refused a.section.now a.«data».now a.blocks.now (length a.scratch.now) a.o (sym c.pilots_inside.ensures ∙ c.if-not-pilots_inside.false) c.if-blocks-ne0.false _ c.arena_end-end.ensures _ c.start.ensures a.scratch.now _ _ c.open_blocks-walked.ensures _ c.in-Refused.is; scratch_len_unchanged = c.open_blocks-walked.auto.scratch }
+    c.finish.ensures
+    ∙ contents_ended a.section.now a.«data».now a.blocks.now (length a.scratch.now) a.o (sym c.pilots_inside.ensures ∙ asked_yes _ _ c.in_ok-ask.ensures) (eqb-true _ _ (asked_yes _ _ c.in_ok-ask-2.ensures)) _ c.arena_end-end.ensures _ c.start.ensures a.scratch.now _ _ c.in_ok-at.ensures _ _ refl

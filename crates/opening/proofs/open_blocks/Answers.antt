@@ -1,82 +1,62 @@
-use mathlib.Core.Path.{refl, sym, ◌∙◌}
-use Prim.Native.Nat.{◌+◌, ◌<◌}
+use mathlib.Core.Path.{refl, sym, ap, ◌∙◌}
 use native.Mathlib.Omega.{arith}
-use lib.ListN.{length, get_or}
-use Rattle.validate.specs.Internal.{inputs_with, progress_in}
+use Rattle.std.specs.Prelude.{Err}
+use Rattle.refusal.specs.declared.Refusal.{Refusal}
+use Rattle.refusal.proofs.Asked.{asked_yes}
+use Rattle.validate.specs.Internal.{inputs_with, progress_in, answer_for}
+use Rattle.validate.proofs.Record.{handed_on, answered_no}
 use Rattle.opening.specs.Internal.{ended_for}
-use Rattle.opening.proofs.Pairs.{fits_inside, pair_passed, pair_refused, ready_passed, pairing_start, pairing_done, pairing_11, pairing_refused, pairing_more}
+use Rattle.opening.proofs.Pairs.{fits_inside, ready_passed, pair_drop, pairing_start, pairing_done, pairing_11, pairing_refused, pairing_more}
 use Rattle.opening.proofs.open_blocks.Goals as goal
 
-pub loop-i-init : goal.loop-i-init
-loop-i-init c =
+pub loop-pair-init : goal.loop-pair-init
+loop-pair-init c =
     let a = c.args in
     (c.requires.ready, refl, pairing_start (inputs_with a.section.now a.«data».now a.o a.end a.half) a.blocks.now (progress_in a.half a.scratch.now a.w))
 
-pub offset_bounds-blocks-i : goal.offset_bounds-blocks-i
-offset_bounds-blocks-i c = omega (arith, c.loop-i.invariant.2.even, c.requires.blocks_len, c.well_formed.1.1.1.1.1.0)
-
-pub bounds-blocks-i : goal.bounds-blocks-i
-bounds-blocks-i c = omega (arith, c.loop-i.invariant.2.even, c.requires.blocks_len, c.well_formed.1.1.1.1.1.0)
-
-pub overflow_add-len : goal.overflow_add-len
-overflow_add-len c = omega (arith, c.loop-i.invariant.2.even, c.requires.blocks_len, c.well_formed.1.1.1.1.1.0)
-
-pub offset_bounds-blocks-i-in-loop-i : goal.offset_bounds-blocks-i-in-loop-i
-offset_bounds-blocks-i-in-loop-i c = omega (arith, c.loop-i.invariant.2.even, c.requires.blocks_len, c.well_formed.1.1.1.1.1.0)
-
-pub bounds-blocks-i-in-loop-i : goal.bounds-blocks-i-in-loop-i
-bounds-blocks-i-in-loop-i c = omega (arith, c.loop-i.invariant.2.even, c.requires.blocks_len, c.well_formed.1.1.1.1.1.0)
-
-pub pair_fits-requires : goal.pair_fits-requires
-pair_fits-requires c = c.loop-i.invariant.2.within
-
-pub returns-then-not-pair_fits : goal.returns-then-not-pair_fits
+pub returns-in_err-ask : goal.returns-in_err-ask
 unfolding ended_for
-returns-then-not-pair_fits c =
+returns-in_err-ask c =
     let a = c.args in
-    let l = c.loop-i in
-    let n : l.i + 1 < length a.blocks.now = omega (arith, l.invariant.2.even, c.requires.blocks_len, c.loop-i-test.true) in
-    pairing_11 (inputs_with a.section.now a.«data».now a.o a.end a.half) a.blocks.now _ l.i l.at (progress_in a.half l.scratch l.carried) l.invariant.2 n (sym c.pair_fits.ensures ∙ c.if-not-pair_fits.true)
+    let l = c.loop-pair in
+    let d = pair_drop a.blocks.now _ l.pair-index c.as_chunks.ensures.front (omega (arith, c.as_chunks.ensures.front_len, c.loop-pair-test.true)) in
+    let x = answered_no _ _ _ c.in_err-ask.ensures in
+    ap (ended_for a.half l.scratch) (handed_on _ _ c.from_residual.ensures.1)
+    ∙ ap (λ (r : Refusal). Err r) x.1
+    ∙ pairing_11 (inputs_with a.section.now a.«data».now a.o a.end a.half) a.blocks.now _ _ l.at (progress_in a.half l.scratch l.carried) l.invariant.2 _ _ d (sym c.pair_fits.ensures ∙ x.0)
 
-pub open_pair-opened-requires : goal.open_pair-opened-requires
-open_pair-opened-requires c = record { ready = c.loop-i.invariant.0; len_in_bounds = fits_inside _ c.loop-i.at _ _ (sym c.pair_fits.ensures ∙ c.if-not-pair_fits.false) }
+pub open_pair-requires-clause-len_in_bounds : goal.open_pair-requires-clause-len_in_bounds
+open_pair-requires-clause-len_in_bounds c = fits_inside _ c.loop-pair.at _ _ (sym c.pair_fits.ensures ∙ asked_yes _ _ c.in_ok-ask.ensures)
+
+pub returns-in_err-carried : goal.returns-in_err-carried
+unfolding ended_for answer_for
+returns-in_err-carried c =
+    let a = c.args in
+    let l = c.loop-pair in
+    let d = pair_drop a.blocks.now _ l.pair-index c.as_chunks.ensures.front (omega (arith, c.as_chunks.ensures.front_len, c.loop-pair-test.true)) in
+    let f = sym c.pair_fits.ensures ∙ asked_yes _ _ c.in_ok-ask.ensures in
+    ap (ended_for a.half c.open_pair.new.scratch) (handed_on _ _ c.from_residual-in_err-carried.ensures.1)
+    ∙ pairing_refused (inputs_with a.section.now a.«data».now a.o a.end a.half) a.blocks.now _ _ l.at (progress_in a.half l.scratch l.carried) l.invariant.2 _ _ d f _ (sym c.in_err-carried.ensures.result_after)
 
 pub overflow_add-at : goal.overflow_add-at
-overflow_add-at c = omega (arith, fits_inside _ c.loop-i.at _ _ (sym c.pair_fits.ensures ∙ c.if-not-pair_fits.false), c.well_formed.1.1.1.1.0)
+overflow_add-at c = omega (arith, fits_inside _ c.loop-pair.at _ _ (sym c.pair_fits.ensures ∙ asked_yes _ _ c.in_ok-ask.ensures), c.well_formed.1.1.1.1.0)
 
-pub overflow_add-i : goal.overflow_add-i
-overflow_add-i c = omega (arith, c.loop-i.invariant.2.even, c.requires.blocks_len, c.loop-i-test.true, c.well_formed.1.1.1.1.1.0)
-
-pub loop-i-smaller : goal.loop-i-smaller
-loop-i-smaller c = omega (arith, c.loop-i.invariant.2.even, c.requires.blocks_len, c.loop-i-test.true)
-
-pub loop-i-preserved : goal.loop-i-preserved
-loop-i-preserved c =
+pub loop-pair-preserved : goal.loop-pair-preserved
+unfolding answer_for
+loop-pair-preserved c =
     let a = c.args in
-    let l = c.loop-i in
-    let n : l.i + 1 < length a.blocks.now = omega (arith, l.invariant.2.even, c.requires.blocks_len, c.loop-i-test.true) in
-    let k = c.open_pair-opened in
-    let g = c.in-Passed.is in
-    let f = sym c.pair_fits.ensures ∙ c.if-not-pair_fits.false in (
-      ready_passed a.table.now a.section.now a.«data».now a.o a.end a.half (get_or a.blocks.now l.i 0) (get_or a.blocks.now (l.i + 1) 0) l.scratch _ l.carried _ l.invariant.0 k.auto.scratch k.ensures.result_after k.ensures.block_held _ g,
-      k.auto.scratch ∙ l.invariant.1,
-      pairing_more (inputs_with a.section.now a.«data».now a.o a.end a.half) a.blocks.now _ l.i l.at (progress_in a.half l.scratch l.carried) l.invariant.2 n f _ (pair_passed a.table.now a.section.now a.«data».now a.o a.end a.half (get_or a.blocks.now l.i 0) (get_or a.blocks.now (l.i + 1) 0) l.scratch _ l.carried _ l.invariant.0 k.auto.scratch k.ensures.result_after k.ensures.block_held _ g),
+    let l = c.loop-pair in
+    let d = pair_drop a.blocks.now _ l.pair-index c.as_chunks.ensures.front (omega (arith, c.as_chunks.ensures.front_len, c.loop-pair-test.true)) in
+    let f = sym c.pair_fits.ensures ∙ asked_yes _ _ c.in_ok-ask.ensures in
+    let e = sym c.in_ok-carried.ensures.result_after in (
+      ready_passed a.section.now a.«data».now a.o a.end a.half _ _ l.scratch _ l.carried _ l.invariant.0 c.open_pair.auto.scratch e c.in_ok-carried.ensures.block_held,
+      c.open_pair.auto.scratch ∙ l.invariant.1,
+      pairing_more (inputs_with a.section.now a.«data».now a.o a.end a.half) a.blocks.now _ _ l.at (progress_in a.half l.scratch l.carried) l.invariant.2 _ _ d f _ _ (omega arith) e,
     )
-
-pub returns-in-Refused : goal.returns-in-Refused
-unfolding ended_for
-returns-in-Refused c =
-    let a = c.args in
-    let l = c.loop-i in
-    let n : l.i + 1 < length a.blocks.now = omega (arith, l.invariant.2.even, c.requires.blocks_len, c.loop-i-test.true) in
-    let k = c.open_pair-opened in
-    let g = c.in-Refused.is in
-    let f = sym c.pair_fits.ensures ∙ c.if-not-pair_fits.false in
-    pairing_refused (inputs_with a.section.now a.«data».now a.o a.end a.half) a.blocks.now _ l.i l.at (progress_in a.half l.scratch l.carried) l.invariant.2 n f _ (pair_refused a.table.now a.section.now a.«data».now a.o a.end a.half (get_or a.blocks.now l.i 0) (get_or a.blocks.now (l.i + 1) 0) l.scratch _ l.carried _ l.invariant.0 k.auto.scratch k.ensures.result_after k.ensures.block_held _ g)
 
 pub returns : goal.returns
 unfolding ended_for
 returns c =
     let a = c.args in
-    let l = c.loop-i in
-    pairing_done (inputs_with a.section.now a.«data».now a.o a.end a.half) a.blocks.now _ l.i l.at (progress_in a.half l.scratch l.carried) l.invariant.2 c.loop-i-test.false
+    let l = c.loop-pair in
+    pairing_done (inputs_with a.section.now a.«data».now a.o a.end a.half) a.blocks.now _ _ l.at (progress_in a.half l.scratch l.carried) l.invariant.2 (omega (arith, c.as_chunks.ensures.front_len, c.loop-pair-test.false, c.requires.blocks_len))

@@ -1,24 +1,23 @@
-use mathlib.Core.Path.{sym, ◌∙◌}
+use mathlib.Core.Path.{sym, ap, ◌∙◌}
 use Rattle.validate.specs.Internal.{inputs_with, progress_in, answer_for}
+use Rattle.validate.proofs.Record.{handed_on}
 use Rattle.opening.proofs.Pairs.{part_cut, part_inside, sound_inside, pair_unsound, pair_sound}
 use Rattle.opening.proofs.open_pair.Goals as goal
 
-pub open_block-requires : goal.open_block-requires
-open_block-requires c =
-    let a = c.args in
-    let p = c.requires in
-    record { ready = p.ready; entries_end_in_bounds = (sound_inside _ _ (sym c.verify-verified.ensures ∙ c.in-Sound.is), part_inside a.«data».now a.offset a.len p.len_in_bounds) }
-
-pub returns-in-Unsound : goal.returns-in-Unsound
+pub returns-in_err-meta-clause-result_after : goal.returns-in_err-meta-clause-result_after
 unfolding answer_for
-returns-in-Unsound c =
+returns-in_err-meta-clause-result_after c =
     let a = c.args in
-    let p = c.requires in
-    record { result_after = pair_unsound (inputs_with a.section.now a.«data».now a.o a.end a.half) a.offset a.len (progress_in a.half a.scratch.now a.w) _ (part_cut a.«data».now a.offset a.len) (sym c.verify-verified.ensures ∙ c.in-Unsound.is); block_held = tt }
+    ap (answer_for a.half a.scratch.now) (handed_on _ _ c.from_residual.ensures.1)
+    ∙ pair_unsound (inputs_with a.section.now a.«data».now a.o a.end a.half) a.offset a.len (progress_in a.half a.scratch.now a.w) _ (part_cut a.«data».now a.offset a.len) _ (sym c.in_err-meta.ensures)
 
-pub returns-in-Sound : goal.returns-in-Sound
-returns-in-Sound c =
+pub open_block-requires-clause-entries_end_in_bounds : goal.open_block-requires-clause-entries_end_in_bounds
+open_block-requires-clause-entries_end_in_bounds c =
     let a = c.args in
-    let p = c.requires in
-    let m = c.open_block.ensures in
-    record { result_after = m.result_after ∙ pair_sound (inputs_with a.section.now a.«data».now a.o a.end a.half) a.offset a.len (progress_in a.half a.scratch.now a.w) _ (part_cut a.«data».now a.offset a.len) _ (sym c.verify-verified.ensures ∙ c.in-Sound.is); block_held = m.block_held }
+    (sound_inside _ _ (sym c.in_ok-meta.ensures), part_inside a.«data».now a.offset a.len c.requires.len_in_bounds)
+
+pub returns-clause-result_after : goal.returns-clause-result_after
+returns-clause-result_after c =
+    let a = c.args in
+    c.open_block.ensures.result_after
+    ∙ pair_sound (inputs_with a.section.now a.«data».now a.o a.end a.half) a.offset a.len (progress_in a.half a.scratch.now a.w) _ (part_cut a.«data».now a.offset a.len) _ (sym c.in_ok-meta.ensures)

@@ -1,14 +1,13 @@
 use mathlib.Core.Path.{◌≡◌, sym, ap, ◌∙◌}
 use Prim.Native.Nat.{ℕ}
 use native.Mathlib.Omega.{arith}
-use borrow.Author.Rules.{rules}
 use Rattle.num.specs.Choice.{each_below}
 use Rattle.num.proofs.Steps.{each_none, each_more, each_no}
 use Rattle.opening.specs.Open.{pilot_inside_of, pilots_inside}
 use Rattle.opening.proofs.pilots_inside.Goals as goal
 
 pub loop-k-init : goal.loop-k-init
-loop-k-init c = (search rules, each_none _)
+loop-k-init c = each_none _
 
 pub pilot_inside-requires : goal.pilot_inside-requires
 pilot_inside-requires c = omega arith
@@ -18,7 +17,7 @@ unfolding pilots_inside
 returns-then-not-pilot_inside c = sym (each_no (pilot_inside_of _ _) _ _ c.loop-k-test.true (sym c.pilot_inside.ensures ∙ c.if-not-pilot_inside.true))
 
 pub loop-k-preserved : goal.loop-k-preserved
-loop-k-preserved c = (search rules, each_more (pilot_inside_of _ _) _ c.loop-k.invariant.1 (sym c.pilot_inside.ensures ∙ c.if-not-pilot_inside.false))
+loop-k-preserved c = (each_more (pilot_inside_of _ _) _ c.loop-k.invariant (sym c.pilot_inside.ensures ∙ c.if-not-pilot_inside.false))
 
 pub returns : goal.returns
 unfolding pilots_inside
@@ -26,4 +25,4 @@ returns c =
     let l = c.loop-k in
     let a = c.args in
     let n : a.o.buckets ≡ l.k = omega arith in
-    sym (ap (λ (i : ℕ). each_below i (pilot_inside_of a.section.now a.o)) n ∙ l.invariant.1)
+    sym (ap (λ (i : ℕ). each_below i (pilot_inside_of a.section.now a.o)) n ∙ l.invariant)

@@ -11,9 +11,9 @@ returns-then-o-eq0 c = rw (eq-eqb _ _ c.if-o-eq0.true)
 pub overflow_add-o : goal.overflow_add-o
 overflow_add-o c = omega (arith, scan_header_inside _ _ c.requires c.if-o-eq0.false)
 
-pub u64_at-requires : goal.u64_at-requires
-u64_at-requires c = omega (arith, scan_header_inside _ _ c.requires c.if-o-eq0.false)
+pub read-requires : goal.read-requires
+read-requires c = omega (arith, scan_header_inside _ _ c.requires c.if-o-eq0.false)
 
 pub returns : goal.returns
 unfolding either
-returns c = rw (ne_eqb _ _ c.if-o-eq0.false, c.u64_at.ensures)
+returns c = rw (ne_eqb _ _ c.if-o-eq0.false, c.read.ensures)

@@ -12,7 +12,7 @@ use Rattle.packed.proofs.Written.{addresses_turn, addresses_done}
 use Rattle.packed.proofs.put_addresses.Goals as goal
 
 pub loop-i-init : goal.loop-i-init
-loop-i-init c = (search rules, refl, simp (zero-mul, sub-zero))
+loop-i-init c = (refl, simp (zero-mul, sub-zero))
 
 pub overflow_mul-i : goal.overflow_mul-i
 overflow_mul-i c =
@@ -57,13 +57,12 @@ loop-i-preserved c =
     let a = c.args in
     let p = c.requires in
     let w = c.copy_address.ensures in (
-      search rules,
-      c.copy_address.auto.out ∙ l.invariant.1,
-      ap (λ (x : List ℕ). sets x ((l.i + 1) * a.o.encoding.address) (packed_addresses a.section.now a.o (l.i + 1) (a.o.count - (l.i + 1)))) w ∙ addresses_turn a.section.now a.o l.out l.i c.loop-i-test.true p.address_in_bounds ∙ l.invariant.2,
+      c.copy_address.auto.out ∙ l.invariant.0,
+      ap (λ (x : List ℕ). sets x ((l.i + 1) * a.o.encoding.address) (packed_addresses a.section.now a.o (l.i + 1) (a.o.count - (l.i + 1)))) w ∙ addresses_turn a.section.now a.o l.out l.i c.loop-i-test.true p.address_in_bounds ∙ l.invariant.1,
     )
 
 pub returns : goal.returns
 returns c =
     let l = c.loop-i in
     let a = c.args in
-    sym (addresses_done a.section.now a.o l.out (l.i * a.o.encoding.address) l.i c.loop-i-test.false) ∙ l.invariant.2
+    sym (addresses_done a.section.now a.o l.out (l.i * a.o.encoding.address) l.i c.loop-i-test.false) ∙ l.invariant.1

@@ -6,7 +6,4 @@ use Rattle.packed.specs.Packed.{packed_addresses}
 use Rattle.packed.proofs.put_addresses.Given as goal
 
 abbrev pub invariant-loop-i : goal.invariant-loop-i
-invariant-loop-i l = (l.i ≤ l.o.count) × (length l.out ≡ length l.initial.out) × (sets l.out (l.i * l.o.encoding.address) (packed_addresses l.section l.o l.i (l.o.count - l.i)) ≡ sets l.initial.out 0 (packed_addresses l.section l.o 0 l.o.count))
-
-abbrev pub decreases-loop-i : goal.decreases-loop-i
-decreases-loop-i l = l.o.count - l.i
+invariant-loop-i l = (length l.out ≡ length l.initial.out) × (sets l.out (l.i * l.fn.o.encoding.address) (packed_addresses l.section l.fn.o l.i (l.fn.o.count - l.i)) ≡ sets l.initial.out 0 (packed_addresses l.section l.fn.o 0 l.fn.o.count))

@@ -6,7 +6,4 @@ use Rattle.packed.specs.Packed.{packed_pilots}
 use Rattle.packed.proofs.put_pilots.Given as goal
 
 abbrev pub invariant-loop-k : goal.invariant-loop-k
-invariant-loop-k l = (l.k ≤ l.count) × (length l.out ≡ length l.initial.out) × (sets l.out (3 * l.k) (packed_pilots l.section l.k (l.count - l.k)) ≡ sets l.initial.out 0 (packed_pilots l.section 0 l.count))
-
-abbrev pub decreases-loop-k : goal.decreases-loop-k
-decreases-loop-k l = l.count - l.k
+invariant-loop-k l = (length l.out ≡ length l.initial.out) × (sets l.out (3 * l.k) (packed_pilots l.section l.k (l.count - l.k)) ≡ sets l.initial.out 0 (packed_pilots l.section 0 l.count))

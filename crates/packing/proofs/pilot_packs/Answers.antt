@@ -5,4 +5,4 @@ use Rattle.packing.proofs.pilot_packs.Goals as goal
 
 pub returns : goal.returns
 unfolding pilot_packs pilot_at direct_slot
-returns c = rw (← c.u32_at-pilot.ensures)
+returns c = rw (← c.read-pilot.ensures)

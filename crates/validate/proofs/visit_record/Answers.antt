@@ -1,66 +1,62 @@
-use Rattle.validate.specs.Internal.{asked_for}
-use mathlib.Core.Path.{sym, ◌∙◌}
+use mathlib.Core.Path.{refl, sym, ap, ◌∙◌}
 use native.Mathlib.Omega.{arith}
-use Rattle.validate.proofs.Record.{asked_14, asked_15, asked_refused, asked_went}
+use borrow.Author.Tests.{leb-true}
+use Rattle.std.specs.Prelude.{Bool, Ok}
+use Rattle.refusal.specs.Refusal.{ask_of}
+use Rattle.validate.specs.Internal.{State, asked_for}
+use Rattle.validate.proofs.Record.{handed_on, answered_yes, asked_14, asked_15, asked_refused, asked_went}
 use Rattle.validate.proofs.visit_record.Goals as goal
 
-pub returns-then-not-mutation : goal.returns-then-not-mutation
+pub returns-in_err-ask-clause-result_after : goal.returns-in_err-ask-clause-result_after
 unfolding asked_for
-returns-then-not-mutation c =
+returns-in_err-ask-clause-result_after c =
     let a = c.args in
     let p = c.requires in
-    record { result_after = asked_14 a.section.now a.«data».now a.o a.end a.half a.offset a.raw.now a.scratch.now a.w a.r p.lies.0 p.lies.1 p.ready.halves p.ready.held (sym c.mutation.ensures ∙ c.if-not-mutation.true); record_held = tt }
+    ap (asked_for a.half a.scratch.now) (handed_on _ _ c.from_residual.ensures.1)
+    ∙ asked_14 a.section.now a.«data».now a.o a.end a.half a.offset a.raw.now a.scratch.now a.w a.r p.lies.0 p.lies.1 p.ready.halves p.ready.held _ (c.in_err-ask.ensures ∙ ap (λ (b : Bool). ask_of b _) c.mutation.ensures)
 
-pub returns-then-half-r : goal.returns-then-half-r
+pub returns-in_err-ask-2-clause-result_after : goal.returns-in_err-ask-2-clause-result_after
 unfolding asked_for
-returns-then-half-r c =
+returns-in_err-ask-2-clause-result_after c =
     let a = c.args in
     let p = c.requires in
-    record { result_after = asked_15 a.section.now a.«data».now a.o a.end a.half a.offset a.raw.now a.scratch.now a.w a.r p.lies.0 p.lies.1 p.ready.halves p.ready.held (sym c.mutation.ensures ∙ c.if-not-mutation.false) c.if-half-r.true; record_held = tt }
+    ap (asked_for a.half a.scratch.now) (handed_on _ _ c.from_residual-in_err-ask-2.ensures.1)
+    ∙ asked_15 a.section.now a.«data».now a.o a.end a.half a.offset a.raw.now a.scratch.now a.w a.r p.lies.0 p.lies.1 p.ready.halves p.ready.held _ (sym c.mutation.ensures ∙ answered_yes _ _ _ c.in_ok-ask.ensures) c.in_err-ask-2.ensures
 
-pub overflow_add-place : goal.overflow_add-place
-overflow_add-place c =
-    let a = c.args in
+pub copy_key-requires : goal.copy_key-requires
+copy_key-requires c =
     let p = c.requires in
-    omega (arith, p.lies.0.inside, p.lies.1, c.well_formed.1.1.1.1.0)
+    let m = leb-true _ _ (answered_yes _ _ _ c.in_ok-ask-2.ensures) in
+    (omega (arith, p.lies.0.longer, p.lies.0.own, p.lies.0.inside), omega (arith, p.lies.0.longer, p.ready.halves))
 
-pub overflow_add-value_end : goal.overflow_add-value_end
-overflow_add-value_end c =
-    let a = c.args in
-    let p = c.requires in
-    omega (arith, p.lies.0.inside, p.lies.1, c.well_formed.1.1.1.1.0)
-
-pub slice_bounds-visit_keys-end : goal.slice_bounds-visit_keys-end
-slice_bounds-visit_keys-end c =
-    let a = c.args in
-    let p = c.requires in
-    omega (arith, p.lies.0.inside, p.lies.1)
-
-pub visit_keys-visited-requires : goal.visit_keys-visited-requires
-visit_keys-visited-requires c =
-    let a = c.args in
+pub visit_keys-requires-clause-key_len_in_bounds : goal.visit_keys-requires-clause-key_len_in_bounds
+visit_keys-requires-clause-key_len_in_bounds c =
     let p = c.requires in
     let k = c.copy_key.auto.scratch in
-    record { table_value = (p.ready.table, p.ready.readable, p.ready.inside); key_len_in_bounds = (omega (arith, k, p.ready.halves, c.if-half-r.false), omega (arith, k, p.ready.halves, p.ready.held.previous)) }
+    let m = leb-true _ _ (answered_yes _ _ _ c.in_ok-ask-2.ensures) in
+    (omega (arith, k, p.ready.halves), omega (arith, k, p.ready.halves, p.ready.held.previous))
+
+pub returns-in_err-cursor-clause-result_after : goal.returns-in_err-cursor-clause-result_after
+unfolding asked_for
+returns-in_err-cursor-clause-result_after c =
+    let a = c.args in
+    let p = c.requires in
+    let y = sym c.mutation.ensures ∙ answered_yes _ _ _ c.in_ok-ask.ensures in
+    let m = leb-true _ _ (answered_yes _ _ _ c.in_ok-ask-2.ensures) in
+    ap (asked_for a.half c.copy_key.new.scratch) (handed_on _ _ c.from_residual-in_err-cursor.ensures.1)
+    ∙ asked_refused a.section.now a.«data».now a.o a.end a.half a.offset a.raw.now a.scratch.now a.w a.r p.lies.0 p.lies.1 p.ready.halves p.ready.held y m _ c.copy_key.ensures _ c.in_err-cursor.ensures _ refl
 
 pub move_on-requires : goal.move_on-requires
 move_on-requires c =
-    let a = c.args in
     let p = c.requires in
-    (c.if-half-r.false, omega (arith, c.copy_key.auto.scratch, p.ready.halves), p.ready.held)
+    (leb-true _ _ (answered_yes _ _ _ c.in_ok-ask-2.ensures), omega (arith, c.copy_key.auto.scratch, p.ready.halves), p.ready.held)
 
-pub returns-in-Refused : goal.returns-in-Refused
+pub returns-clause-result_after : goal.returns-clause-result_after
 unfolding asked_for
-returns-in-Refused c =
+returns-clause-result_after c =
     let a = c.args in
     let p = c.requires in
-    let y = sym c.mutation.ensures ∙ c.if-not-mutation.false in
-    record { result_after = asked_refused a.section.now a.«data».now a.o a.end a.half a.offset a.raw.now a.scratch.now a.w a.r p.lies.0 p.lies.1 p.ready.halves p.ready.held y c.if-half-r.false _ c.copy_key.ensures _ c.visit_keys-visited.ensures _ c.in-Refused.is; record_held = tt }
-
-pub returns-in-Went : goal.returns-in-Went
-returns-in-Went c =
-    let a = c.args in
-    let p = c.requires in
-    let y = sym c.mutation.ensures ∙ c.if-not-mutation.false in
-    let m = c.move_on.ensures in
-    record { result_after = m.result_after ∙ asked_went a.section.now a.«data».now a.o a.end a.half a.offset a.raw.now a.scratch.now a.w a.r p.lies.0 p.lies.1 p.ready.halves p.ready.held y c.if-half-r.false _ c.copy_key.ensures _ c.visit_keys-visited.ensures _ c.in-Went.is; record_held = m.record_held }
+    let y = sym c.mutation.ensures ∙ answered_yes _ _ _ c.in_ok-ask.ensures in
+    let m = leb-true _ _ (answered_yes _ _ _ c.in_ok-ask-2.ensures) in
+    ap (λ (st : State). Ok (a.r.next, st)) c.move_on.ensures.state_after
+    ∙ asked_went a.section.now a.«data».now a.o a.end a.half a.offset a.raw.now a.scratch.now a.w a.r p.lies.0 p.lies.1 p.ready.halves p.ready.held y m _ c.copy_key.ensures _ c.in_ok-cursor.ensures _ refl

@@ -33,8 +33,8 @@ overflow_add-at-3 c =
     let pre = c.requires in
     omega (arith, checksum_inside _ _ _ pre.standing (not-false _ if1.false))
 
-pub u32_at-requires : goal.u32_at-requires
-u32_at-requires c =
+pub read-requires : goal.read-requires
+read-requires c =
     let if1 = c.if-not-e in
     let pre = c.requires in
     checksum_inside _ _ _ pre.standing (not-false _ if1.false)
@@ -44,6 +44,6 @@ unfolding checksum_agrees stored_checksum either
 returns c =
     let if1 = c.if-not-e in
     let args = c.args in
-    rw (c.u32_at.ensures, c.crc32_with.ensures)
+    rw (c.read.ensures, c.crc32.ensures)
     (ap (λ (b : Bool). either (not b) (eqb (stored_checksum args.section.now args.o args.c.pos) (crc_of args.value.now)))
     (sym (not-false args.o.encoding.checksum if1.false)))

@@ -2,6 +2,8 @@ use mathlib.Core.Path.{sym, ◌∙◌}
 use Prim.Native.Nat.{◌+◌, ◌-◌}
 use native.Mathlib.Omega.{arith}
 use lib.ListN.{length}
+use borrow.Author.Tests.{not-true, not-false}
+use Rattle.num.proofs.Order.{pointwise_bytes}
 use Rattle.versions.proofs.Stored.{other_length, other_front, same_back}
 use Rattle.versions.proofs.stored_key_equal.Goals as goal
 
@@ -16,29 +18,25 @@ returns-then-key-shared-2 c =
     let pre = c.requires in
     sym (other_length _ _ _ pre _ (λ e. c.if-key-shared-2.true (omega (arith, if1.false))))
 
-pub returns-then-not-keys_equal : goal.returns-then-not-keys_equal
-returns-then-not-keys_equal c =
-    let pre = c.requires in
+pub returns-then-ne : goal.returns-then-ne
+returns-then-ne c =
     let args = c.args in
     sym
-    (other_front _ _ _ pre _ (args.c.shared - 0) (args.o.arena + args.c.anchor + args.c.shared - (args.o.arena + args.c.anchor))
+    (other_front _ _ _ c.requires _ args.c.shared (args.o.arena + args.c.anchor + args.c.shared - (args.o.arena + args.c.anchor))
     (omega arith)
     (omega arith)
-    (sym c.keys_equal.ensures ∙ c.if-not-keys_equal.true))
+    (sym (pointwise_bytes _ _) ∙ not-true _ (sym c.ne.ensures ∙ c.if-ne.true)))
 
 pub returns : goal.returns
 returns c =
-    let if3 = c.if-not-keys_equal in
-    let keys-equal = c.keys_equal in
-    let if1 = c.if-key-shared in
-    let pre = c.requires in
     let args = c.args in
-    c.keys_equal-2.ensures
-    ∙ same_back _ _ _ pre _ (args.c.shared - 0) (args.o.arena + args.c.anchor + args.c.shared - (args.o.arena + args.c.anchor))
+    c.eq.ensures
+    ∙ pointwise_bytes _ _
+    ∙ same_back _ _ _ c.requires _ args.c.shared (args.o.arena + args.c.anchor + args.c.shared - (args.o.arena + args.c.anchor))
     (length args.key.now - args.c.shared)
     (args.c.suffix + args.c.suffix_len - args.c.suffix)
     (omega arith)
     (omega arith)
-    (omega (arith, if1.false))
+    (omega (arith, c.if-key-shared.false))
     (omega arith)
-    (sym keys-equal.ensures ∙ if3.false)
+    (sym (pointwise_bytes _ _) ∙ not-false _ (sym c.ne.ensures ∙ c.if-ne.false))
