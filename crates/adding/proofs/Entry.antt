@@ -7,11 +7,12 @@ use Prim.Native.Nat.{ℕ, ◌+◌, ◌≤◌}
 use native.Mathlib.Omega.{arith}
 use lib.ListN.{length, length-append}
 use lib.Seq.{sets}
+use Rattle.num.specs.Choice.{when◌then◌else◌}
 use Rattle.num.specs.Number.{le_bytes}
 use Rattle.num.proofs.Choice.{if_true, if_false}
 use Rattle.num.proofs.Number.{length_le_bytes}
 use Rattle.builder.specs.declared.Builder.{Builder}
-use Rattle.area.specs.Area.{head_len, area_version_len}
+use Rattle.area.specs.Area.{head_len, area_version_len, area_versions}
 use Rattle.builder.specs.Offer.{Offer, head_bytes, version_bytes, entry_len}
 use Rattle.builder.specs.Record.{builder_after}
 use Rattle.builder.specs.Add.{versions_with, area_after_of, counted_of}
@@ -37,6 +38,10 @@ module _ {area : List ℕ} {b : Builder} {e : Offer} (p : Passed area b e) where
   -- an entry that is not new belongs to a key in the used area
   pub old_keyed : e.new_key ≡ false → Keyed area b
   old_keyed f = (stood area b p.stands).keyed (follows_key e.new_key b.totals.keys p.follows f)
+
+  -- it counts the versions of that key, with this one
+  pub old_count : e.new_key ≡ false → (when e.new_key then 1 else area_versions area b.last_key + 1) ≡ area_versions area b.last_key + 1
+  old_count f = if_false e.new_key 1 (area_versions area b.last_key + 1) f
 
 module _ (area : List ℕ) (b : Builder) (e : Offer) (x₁ x₂ : List ℕ) where
   pub new_area : e.new_key ≡ true → x₁ ≡ sets area b.used (head_bytes e.key) → x₂ ≡ sets x₁ (b.used + head_len + length e.key) (version_bytes e)

@@ -8,7 +8,10 @@ use native.Mathlib.Omega.{arith}
 use lib.Dec.{eqb, leb, ltb}
 use lib.ListN.{length}
 use borrow.Author.Tests.{leb-true, le-leb, ltb-true, lt-ltb, eqb-false, ne_eqb}
-use Rattle.num.specs.Answer.{Answer, given, refused}
+use Rattle.std.specs.Prelude.{Result, Ok, Err}
+use Rattle.refusal.specs.declared.Refusal.{Refusal}
+use Rattle.refusal.specs.declared.Refusal.TheVariants as refusal
+use Rattle.refusal.specs.Refusal.{refusal_number, answer_number}
 use Rattle.num.specs.Choice.{when◌then◌else◌, both, either}
 use Rattle.num.proofs.Choice.{if_true, if_false, if_case, both_true, true_both, either_second, second_either, false_true}
 use Rattle.sstable.specs.Limits.{within_limits, limit_defs}
@@ -16,7 +19,7 @@ use Rattle.builder.specs.declared.Builder.{Builder}
 use Rattle.builder.specs.Offer.{Offer, entry_len}
 use Rattle.builder.specs.Record.{builder_after, standing}
 use Rattle.area.specs.Area.{head_len}
-use Rattle.builder.specs.Add.{max_keys, area_after_of, counted_of, BuilderState, add_of, added_read, added_number}
+use Rattle.builder.specs.Add.{max_keys, area_after_of, counted_of, BuilderState, add_of}
 use Rattle.numbers.specs.BuilderNumbers.{builder_in}
 use Rattle.calls.specs.Calls.{place}
 use Rattle.buildcalls.specs.BuildCalls.{AddLent, offered, adds}
@@ -31,13 +34,13 @@ by_mark true x y = refl
 by_mark false x y = refl
 
 -- the number of an answer
-refused_with : {a : Answer BuilderState} {n : ℕ} → a ≡ refused n → added_number (added_read a) ≡ n
-unfolding added_number added_read
-refused_with q = ap (λ (x : Answer BuilderState). added_number (added_read x)) q
+refused_with : {a : Result BuilderState Refusal} {r : Refusal} → a ≡ Err r → answer_number a ≡ refusal_number r
+unfolding answer_number
+refused_with q = ap (λ (x : Result BuilderState Refusal). answer_number x) q
 
-given_one : {a : Answer BuilderState} {s : BuilderState} → a ≡ given s → added_number (added_read a) ≡ 0
-unfolding added_number added_read
-given_one q = ap (λ (x : Answer BuilderState). added_number (added_read x)) q
+given_one : {a : Result BuilderState Refusal} {s : BuilderState} → a ≡ Ok s → answer_number a ≡ 0
+unfolding answer_number
+given_one q = ap (λ (x : Result BuilderState Refusal). answer_number x) q
 
 module _ (lent : AddLent) where
   abbrev b : Builder
@@ -128,23 +131,23 @@ module _ (lent : AddLent) where
 
   -- ---- the questions in their order
 
-  abbrev from34 : Answer BuilderState
-  from34 = when t34 then given (record { area = area_after_of lent.area b e; builder = builder_after lent.area b (counted_of lent.area b e) }) else refused 34
+  abbrev from34 : Result BuilderState Refusal
+  from34 = when t34 then Ok (record { area = area_after_of lent.area b e; builder = builder_after lent.area b (counted_of lent.area b e) }) else Err refusal.AreaRoom
 
-  abbrev from37 : Answer BuilderState
-  from37 = when t37 then from34 else refused 37
+  abbrev from37 : Result BuilderState Refusal
+  from37 = when t37 then from34 else Err refusal.Builder
 
-  abbrev from33 : Answer BuilderState
-  from33 = when t33 then from37 else refused 33
+  abbrev from33 : Result BuilderState Refusal
+  from33 = when t33 then from37 else Err refusal.TooManyKeys
 
-  abbrev from32 : Answer BuilderState
-  from32 = when t32 then from33 else refused 32
+  abbrev from32 : Result BuilderState Refusal
+  from32 = when t32 then from33 else Err refusal.OffsetFalls
 
-  abbrev from31 : Answer BuilderState
-  from31 = when t31 then from32 else refused 31
+  abbrev from31 : Result BuilderState Refusal
+  from31 = when t31 then from32 else Err refusal.FirstNotNew
 
-  abbrev from30 : Answer BuilderState
-  from30 = when t30 then from31 else refused 30
+  abbrev from30 : Result BuilderState Refusal
+  from30 = when t30 then from31 else Err refusal.AddLimits
 
   questions : adds lent ≡ from30
   unfolding add_of builder_in offered
@@ -152,15 +155,15 @@ module _ (lent : AddLent) where
 
   -- ---- from the result
 
-  outcome : AddResult lent (added_number (added_read from30))
-  unfolding added_number added_read
+  outcome : AddResult lent (answer_number from30)
+  unfolding answer_number
   outcome =
-      if_case P t30 from31 (refused 30)
-      (λ q₀. if_case P t31 from32 (refused 31)
-      (λ q₁. if_case P t32 from33 (refused 32)
-      (λ q₂. if_case P t33 from37 (refused 33)
-      (λ q₃. if_case P t37 from34 (refused 37)
-      (λ q₄. if_case P t34 _ (refused 34)
+      if_case P t30 from31 (Err refusal.AddLimits)
+      (λ q₀. if_case P t31 from32 (Err refusal.FirstNotNew)
+      (λ q₁. if_case P t32 from33 (Err refusal.OffsetFalls)
+      (λ q₂. if_case P t33 from37 (Err refusal.TooManyKeys)
+      (λ q₃. if_case P t37 from34 (Err refusal.Builder)
+      (λ q₄. if_case P t34 _ (Err refusal.AreaRoom)
       (λ q₅. taken (limits.0 q₀) (follows.0 q₁) (rises.0 q₂) (few.0 q₃) (stands.0 q₄) ((room (stands.0 q₄)).0 q₅))
       (λ n. asked_34 (limits.0 q₀) (follows.0 q₁) (rises.0 q₂) (few.0 q₃) (stands.0 q₄) (no_of t34 (room (stands.0 q₄)) n)))
       (λ n. asked_37 (limits.0 q₀) (follows.0 q₁) (rises.0 q₂) (few.0 q₃) (no_of t37 stands n)))
@@ -169,39 +172,39 @@ module _ (lent : AddLent) where
       (λ n. asked_31 (limits.0 q₀) (no_of t31 follows n)))
       (λ n. asked_30 (no_of t30 limits n))
     where
-      P : Answer BuilderState → Type 0
-      P a = AddResult lent (added_number (added_read a))
+      P : Result BuilderState Refusal → Type 0
+      P a = AddResult lent (answer_number a)
 
   -- ---- to the result
 
   pass_30 : WithinLimits lent → from30 ≡ from31
-  pass_30 l = if_true t30 from31 (refused 30) (limits.1 l)
+  pass_30 l = if_true t30 from31 (Err refusal.AddLimits) (limits.1 l)
 
   pass_31 : WithinLimits lent → Follows lent → from30 ≡ from32
-  pass_31 l f = pass_30 l ∙ if_true t31 from32 (refused 31) (follows.1 f)
+  pass_31 l f = pass_30 l ∙ if_true t31 from32 (Err refusal.FirstNotNew) (follows.1 f)
 
   pass_32 : WithinLimits lent → Follows lent → OffsetRises lent → from30 ≡ from33
-  pass_32 l f r = pass_31 l f ∙ if_true t32 from33 (refused 32) (rises.1 r)
+  pass_32 l f r = pass_31 l f ∙ if_true t32 from33 (Err refusal.OffsetFalls) (rises.1 r)
 
   pass_33 : WithinLimits lent → Follows lent → OffsetRises lent → FewKeys lent → from30 ≡ from37
-  pass_33 l f r k = pass_32 l f r ∙ if_true t33 from37 (refused 33) (few.1 k)
+  pass_33 l f r k = pass_32 l f r ∙ if_true t33 from37 (Err refusal.TooManyKeys) (few.1 k)
 
   pass_37 : WithinLimits lent → Follows lent → OffsetRises lent → FewKeys lent → Stands lent.area lent.numbers → from30 ≡ from34
-  pass_37 l f r k s = pass_33 l f r k ∙ if_true t37 from34 (refused 37) (stands.1 s)
+  pass_37 l f r k s = pass_33 l f r k ∙ if_true t37 from34 (Err refusal.Builder) (stands.1 s)
 
-  answered : (n : ℕ) → AddResult lent n → added_number (added_read from30) ≡ n
-  answered n (asked_30 x) = refused_with (if_false t30 from31 (refused 30) (of_no t30 limits x))
-  answered n (asked_31 l x) = refused_with (pass_30 l ∙ if_false t31 from32 (refused 31) (of_no t31 follows x))
-  answered n (asked_32 l f x) = refused_with (pass_31 l f ∙ if_false t32 from33 (refused 32) (of_no t32 rises x))
-  answered n (asked_33 l f r x) = refused_with (pass_32 l f r ∙ if_false t33 from37 (refused 33) (of_no t33 few x))
-  answered n (asked_37 l f r k x) = refused_with (pass_33 l f r k ∙ if_false t37 from34 (refused 37) (of_no t37 stands x))
-  answered n (asked_34 l f r k s x) = refused_with (pass_37 l f r k s ∙ if_false t34 _ (refused 34) (of_no t34 (room s) x))
-  answered n (taken l f r k s m) = given_one (pass_37 l f r k s ∙ if_true t34 _ (refused 34) ((room s).1 m))
+  answered : (n : ℕ) → AddResult lent n → answer_number from30 ≡ n
+  answered n (asked_30 x) = refused_with (if_false t30 from31 (Err refusal.AddLimits) (of_no t30 limits x))
+  answered n (asked_31 l x) = refused_with (pass_30 l ∙ if_false t31 from32 (Err refusal.FirstNotNew) (of_no t31 follows x))
+  answered n (asked_32 l f x) = refused_with (pass_31 l f ∙ if_false t32 from33 (Err refusal.OffsetFalls) (of_no t32 rises x))
+  answered n (asked_33 l f r x) = refused_with (pass_32 l f r ∙ if_false t33 from37 (Err refusal.TooManyKeys) (of_no t33 few x))
+  answered n (asked_37 l f r k x) = refused_with (pass_33 l f r k ∙ if_false t37 from34 (Err refusal.Builder) (of_no t37 stands x))
+  answered n (asked_34 l f r k s x) = refused_with (pass_37 l f r k s ∙ if_false t34 _ (Err refusal.AreaRoom) (of_no t34 (room s) x))
+  answered n (taken l f r k s m) = given_one (pass_37 l f r k s ∙ if_true t34 _ (Err refusal.AreaRoom) ((room s).1 m))
 
 pub adds_exactly : AddsExactly
 unfolding AddsExactly
 adds_exactly c n =
-    let number = c.returns ∙ ap (λ (a : Answer BuilderState). added_number (added_read a)) (questions c.lent) in (
+    let number = c.returns ∙ ap (λ (a : Result BuilderState Refusal). answer_number a) (questions c.lent) in (
       λ e. subst (AddResult c.lent) (sym number ∙ e) (outcome c.lent),
       λ r. number ∙ answered c.lent n r,
     )

@@ -9,7 +9,10 @@ use native.Mathlib.Omega.{arith}
 use lib.Dec.{leb, ltb}
 use lib.ListN.{length}
 use borrow.Author.Tests.{leb-true, leb-false, le-leb, lt-leb, ltb-true, ltb-false, lt-ltb, le-ltb}
-use Rattle.num.specs.Answer.{Answer, given, refused}
+use Rattle.std.specs.Prelude.{Result, Ok, Err}
+use Rattle.refusal.specs.declared.Refusal.{Refusal}
+use Rattle.refusal.specs.declared.Refusal.TheVariants as refusal
+use Rattle.refusal.specs.Refusal.{refusal_number, answer_number}
 use Rattle.num.specs.Choice.{when◌then◌else◌, both}
 use Rattle.num.proofs.Choice.{if_true, if_false, if_case, both_true, true_both}
 use Rattle.encoding.specs.Encoding.{encoding_of, section_len_of}
@@ -18,10 +21,9 @@ use Rattle.construction.specs.Promises.{SeedDecided}
 use Rattle.construction.proofs.Promises.{seed_decided}
 use Rattle.area.specs.Area.{keys_in_of}
 use Rattle.builder.specs.declared.Builder.{Builder}
-use Rattle.builder.specs.Record.{sizeable, size_of_section, sized_read, sized_number}
+use Rattle.builder.specs.Record.{sizeable, size_of_section}
 use Rattle.readback.specs.ReadBack.{reads_back_of}
 use Rattle.writer.specs.Write.{scratch_enough, section_for, write_of}
-use Rattle.writing.specs.Wrote.{wrote_read, wrote_number}
 use Rattle.numbers.specs.BuilderNumbers.{builder_in}
 use Rattle.calls.specs.Calls.{place}
 use Rattle.buildcalls.specs.BuildCalls.{WriteLent, writes}
@@ -33,15 +35,15 @@ use Rattle.buildasks.proofs.Records.{no_of, of_no, sizeable_asked}
 
 module _ (numbers : List ℕ) (prefix : ℕ) where
   abbrev told : ℕ
-  told = sized_number (sized_read (size_of_section (builder_in numbers) prefix))
+  told = answer_number (size_of_section (builder_in numbers) prefix)
 
   size_yes : Sizeable numbers → told ≡ 0
-  unfolding size_of_section sized_number sized_read
-  size_yes s = ap (λ (a : Answer ℕ). sized_number (sized_read a)) (if_true _ _ (refused 37) ((sizeable_asked numbers).1 s))
+  unfolding size_of_section answer_number
+  size_yes s = ap (λ (a : Result ℕ Refusal). answer_number a) (if_true _ _ (Err refusal.Builder) ((sizeable_asked numbers).1 s))
 
   size_no : (Sizeable numbers → ⊥) → told ≡ 37
-  unfolding size_of_section sized_number sized_read
-  size_no n = ap (λ (a : Answer ℕ). sized_number (sized_read a)) (if_false _ _ (refused 37) (of_no _ (sizeable_asked numbers) n))
+  unfolding size_of_section answer_number
+  size_no n = ap (λ (a : Result ℕ Refusal). answer_number a) (if_false _ _ (Err refusal.Builder) (of_no _ (sizeable_asked numbers) n))
 
   yes_size : told ≡ 0 → Sizeable numbers
   yes_size z = go (sizeable (builder_in numbers)) refl
@@ -63,9 +65,9 @@ sizes_exactly =
 -- ---- writing
 
 -- the number of an answer
-refused_with : {a : Answer (List ℕ)} {n : ℕ} → a ≡ refused n → wrote_number (wrote_read a) ≡ n
-unfolding wrote_number wrote_read
-refused_with q = ap (λ (x : Answer (List ℕ)). wrote_number (wrote_read x)) q
+refused_with : {a : Result (List ℕ) Refusal} {r : Refusal} → a ≡ Err r → answer_number a ≡ refusal_number r
+unfolding answer_number
+refused_with q = ap (λ (x : Result (List ℕ) Refusal). answer_number x) q
 
 module _ (lent : WriteLent) where
   abbrev b : Builder
@@ -107,9 +109,9 @@ module _ (lent : WriteLent) where
   abbrev t39 : Bool
   t39 = leb size (length lent.output)
 
-  size_told : Writable lent → size_of_section b lent.prefix ≡ given size
-  unfolding size_of_section
-  size_told w = if_true _ _ (refused 37) ((sizeable_asked lent.numbers).1 w.sizes)
+  size_told : Writable lent → size_of_section b lent.prefix ≡ Ok size
+  unfolding size_of_section answer_number
+  size_told w = if_true _ _ (Err refusal.Builder) ((sizeable_asked lent.numbers).1 w.sizes)
 
   output : Writable lent → (t39 ≡ true) ↔ OutputHolds lent
   output w = (
@@ -125,23 +127,23 @@ module _ (lent : WriteLent) where
 
   -- ---- the questions in their order
 
-  abbrev section : Answer (List ℕ)
+  abbrev section : Result (List ℕ) Refusal
   section = section_for lent.area b lent.prefix (construct_of area_keys)
 
-  abbrev from39 : Answer (List ℕ)
-  from39 = when t39 then section else refused 39
+  abbrev from39 : Result (List ℕ) Refusal
+  from39 = when t39 then section else Err refusal.SectionRoom
 
-  abbrev from38 : Answer (List ℕ)
-  from38 = when t38 then from39 else refused 38
+  abbrev from38 : Result (List ℕ) Refusal
+  from38 = when t38 then from39 else Err refusal.BuildScratch
 
-  abbrev from37 : Answer (List ℕ)
-  from37 = when t37 then from38 else refused 37
+  abbrev from37 : Result (List ℕ) Refusal
+  from37 = when t37 then from38 else Err refusal.Builder
 
-  abbrev from36 : Answer (List ℕ)
-  from36 = when t36 then from37 else refused 36
+  abbrev from36 : Result (List ℕ) Refusal
+  from36 = when t36 then from37 else Err refusal.NoKey
 
-  abbrev from35 : Answer (List ℕ)
-  from35 = when t35 then from36 else refused 35
+  abbrev from35 : Result (List ℕ) Refusal
+  from35 = when t35 then from36 else Err refusal.PrefixLong
 
   questions : writes lent ≡ from35
   unfolding write_of builder_in
@@ -149,22 +151,20 @@ module _ (lent : WriteLent) where
 
   -- ---- from the result
 
-  constructed : lent.prefix ≤ 24 → 0 < keys → Writable lent → ScratchesHold lent → OutputHolds lent → (a : Answer Constructed) → construct_of area_keys ≡ a
-      → WriteResult lent (wrote_number (wrote_read (section_for lent.area b lent.prefix a)))
-  unfolding section_for wrote_number wrote_read SeedDecided NoSeed
-  constructed p h w s o (given c) e = written p h w s o (λ x. not_both 40 c (sym ((seed_decided area_keys).refuses.1 x) ∙ e))
-  constructed p h w s o (refused n) e =
-      let q = (seed_decided area_keys).never n e in
-      subst (WriteResult lent) (sym q) (asked_40 p h w s o ((seed_decided area_keys).refuses.0 (e ∙ ap refused q)))
+  constructed : lent.prefix ≤ 24 → 0 < keys → Writable lent → ScratchesHold lent → OutputHolds lent → (a : Result Constructed Refusal) → construct_of area_keys ≡ a
+      → WriteResult lent (answer_number (section_for lent.area b lent.prefix a))
+  unfolding section_for answer_number SeedDecided NoSeed
+  constructed p h w s o (Ok c) e = written p h w s o (λ x. not_both refusal.NoSeed c (sym ((seed_decided area_keys).refuses.1 x) ∙ e))
+  constructed p h w s o (Err n) e = asked_40 p h w s o ((seed_decided area_keys).refuses.0 (e ∙ ap Err ((seed_decided area_keys).never n e)))
 
-  outcome : WriteResult lent (wrote_number (wrote_read from35))
-  unfolding wrote_number wrote_read
+  outcome : WriteResult lent (answer_number from35)
+  unfolding answer_number
   outcome =
-      if_case P t35 from36 (refused 35)
-      (λ q₀. if_case P t36 from37 (refused 36)
-      (λ q₁. if_case P t37 from38 (refused 37)
-      (λ q₂. if_case P t38 from39 (refused 38)
-      (λ q₃. if_case P t39 section (refused 39)
+      if_case P t35 from36 (Err refusal.PrefixLong)
+      (λ q₀. if_case P t36 from37 (Err refusal.NoKey)
+      (λ q₁. if_case P t37 from38 (Err refusal.Builder)
+      (λ q₂. if_case P t38 from39 (Err refusal.BuildScratch)
+      (λ q₃. if_case P t39 section (Err refusal.SectionRoom)
       (λ q₄. constructed (short q₀) (some q₁) (writable.0 q₂) (scratches.0 q₃) ((output (writable.0 q₂)).0 q₄) (construct_of area_keys) refl)
       (λ n. asked_39 (short q₀) (some q₁) (writable.0 q₂) (scratches.0 q₃) (no_of t39 (output (writable.0 q₂)) n)))
       (λ n. asked_38 (short q₀) (some q₁) (writable.0 q₂) (no_of t38 scratches n)))
@@ -172,8 +172,8 @@ module _ (lent : WriteLent) where
       (λ n. asked_36 (short q₀) (let l = ltb-false 0 keys n in omega arith)))
       (λ n. asked_35 (leb-false lent.prefix 24 n))
     where
-      P : Answer (List ℕ) → Type 0
-      P a = WriteResult lent (wrote_number (wrote_read a))
+      P : Result (List ℕ) Refusal → Type 0
+      P a = WriteResult lent (answer_number a)
 
       short : t35 ≡ true → lent.prefix ≤ 24
       short q = leb-true lent.prefix 24 q
@@ -184,43 +184,43 @@ module _ (lent : WriteLent) where
   -- ---- to the result
 
   pass_35 : lent.prefix ≤ 24 → from35 ≡ from36
-  pass_35 p = if_true t35 from36 (refused 35) (le-leb lent.prefix 24 p)
+  pass_35 p = if_true t35 from36 (Err refusal.PrefixLong) (le-leb lent.prefix 24 p)
 
   pass_36 : lent.prefix ≤ 24 → 0 < keys → from35 ≡ from37
-  pass_36 p h = pass_35 p ∙ if_true t36 from37 (refused 36) (lt-ltb 0 keys h)
+  pass_36 p h = pass_35 p ∙ if_true t36 from37 (Err refusal.NoKey) (lt-ltb 0 keys h)
 
   pass_37 : lent.prefix ≤ 24 → 0 < keys → Writable lent → from35 ≡ from38
-  pass_37 p h w = pass_36 p h ∙ if_true t37 from38 (refused 37) (writable.1 w)
+  pass_37 p h w = pass_36 p h ∙ if_true t37 from38 (Err refusal.Builder) (writable.1 w)
 
   pass_38 : lent.prefix ≤ 24 → 0 < keys → Writable lent → ScratchesHold lent → from35 ≡ from39
-  pass_38 p h w s = pass_37 p h w ∙ if_true t38 from39 (refused 38) (scratches.1 s)
+  pass_38 p h w s = pass_37 p h w ∙ if_true t38 from39 (Err refusal.BuildScratch) (scratches.1 s)
 
   pass_39 : lent.prefix ≤ 24 → 0 < keys → Writable lent → ScratchesHold lent → OutputHolds lent → from35 ≡ section
-  pass_39 p h w s o = pass_38 p h w s ∙ if_true t39 section (refused 39) ((output w).1 o)
+  pass_39 p h w s o = pass_38 p h w s ∙ if_true t39 section (Err refusal.SectionRoom) ((output w).1 o)
 
-  no_seed : NoSeed lent → section ≡ refused 40
-  unfolding NoSeed SeedDecided section_for
+  no_seed : NoSeed lent → section ≡ Err refusal.NoSeed
+  unfolding NoSeed SeedDecided section_for answer_number
   no_seed x = ap (section_for lent.area b lent.prefix) ((seed_decided area_keys).refuses.1 x)
 
-  a_seed : (NoSeed lent → ⊥) → (a : Answer Constructed) → construct_of area_keys ≡ a → wrote_number (wrote_read (section_for lent.area b lent.prefix a)) ≡ 0
-  unfolding NoSeed SeedDecided section_for wrote_number wrote_read
-  a_seed some (given c) e = refl
-  a_seed some (refused n) e = absurd (some ((seed_decided area_keys).refuses.0 (e ∙ ap refused ((seed_decided area_keys).never n e))))
+  a_seed : (NoSeed lent → ⊥) → (a : Result Constructed Refusal) → construct_of area_keys ≡ a → answer_number (section_for lent.area b lent.prefix a) ≡ 0
+  unfolding NoSeed SeedDecided section_for answer_number
+  a_seed some (Ok c) e = refl
+  a_seed some (Err n) e = absurd (some ((seed_decided area_keys).refuses.0 (e ∙ ap Err ((seed_decided area_keys).never n e))))
 
-  answered : (n : ℕ) → WriteResult lent n → wrote_number (wrote_read from35) ≡ n
-  answered n (asked_35 p) = refused_with (if_false t35 from36 (refused 35) (lt-leb lent.prefix 24 p))
-  answered n (asked_36 p z) = refused_with (pass_35 p ∙ if_false t36 from37 (refused 36) (le-ltb 0 keys (omega arith)))
-  answered n (asked_37 p h x) = refused_with (pass_36 p h ∙ if_false t37 from38 (refused 37) (of_no t37 writable x))
-  answered n (asked_38 p h w x) = refused_with (pass_37 p h w ∙ if_false t38 from39 (refused 38) (of_no t38 scratches x))
-  answered n (asked_39 p h w s x) = refused_with (pass_38 p h w s ∙ if_false t39 section (refused 39) (of_no t39 (output w) x))
+  answered : (n : ℕ) → WriteResult lent n → answer_number from35 ≡ n
+  answered n (asked_35 p) = refused_with (if_false t35 from36 (Err refusal.PrefixLong) (lt-leb lent.prefix 24 p))
+  answered n (asked_36 p z) = refused_with (pass_35 p ∙ if_false t36 from37 (Err refusal.NoKey) (le-ltb 0 keys (omega arith)))
+  answered n (asked_37 p h x) = refused_with (pass_36 p h ∙ if_false t37 from38 (Err refusal.Builder) (of_no t37 writable x))
+  answered n (asked_38 p h w x) = refused_with (pass_37 p h w ∙ if_false t38 from39 (Err refusal.BuildScratch) (of_no t38 scratches x))
+  answered n (asked_39 p h w s x) = refused_with (pass_38 p h w s ∙ if_false t39 section (Err refusal.SectionRoom) (of_no t39 (output w) x))
   answered n (asked_40 p h w s o x) = refused_with (pass_39 p h w s o ∙ no_seed x)
   answered n (written p h w s o some) =
-      ap (λ (x : Answer (List ℕ)). wrote_number (wrote_read x)) (pass_39 p h w s o) ∙ a_seed some (construct_of area_keys) refl
+      ap (λ (x : Result (List ℕ) Refusal). answer_number x) (pass_39 p h w s o) ∙ a_seed some (construct_of area_keys) refl
 
 pub writes_asked : WritesAsked
 unfolding WritesAsked
 writes_asked c n =
-    let number = c.returns ∙ ap (λ (a : Answer (List ℕ)). wrote_number (wrote_read a)) (questions c.lent) in (
+    let number = c.returns ∙ ap (λ (a : Result (List ℕ) Refusal). answer_number a) (questions c.lent) in (
       λ e. subst (WriteResult c.lent) (sym number ∙ e) (outcome c.lent),
       λ r. number ∙ answered c.lent n r,
     )

@@ -1,7 +1,6 @@
 -- What the entries of building ask (document 01, "Building"), in plain terms over the sixteen numbers and the area that they are lent, whatever
 -- these are: forged ones too. A result is the number of the first question that is answered with no, or 0.
-use Rattle.std.specs.Prelude.{◌≡◌, true, List, ◌↔◌, ◌⊎◌, ℕ, ◌+◌, ◌*◌, ◌^◌, ◌<◌, ◌≤◌, eqb, length}
-use Rattle.num.specs.Answer.{given}
+use Rattle.std.specs.Prelude.{◌≡◌, true, List, ◌↔◌, ◌⊎◌, ℕ, ◌+◌, ◌*◌, ◌^◌, ◌<◌, ◌≤◌, eqb, length, Ok}
 use Rattle.num.specs.Choice.{when◌then◌else◌}
 use Rattle.num.specs.Number.{le_at}
 use Rattle.construction.specs.Promises.{Fails}
@@ -108,7 +107,7 @@ pub record ScratchesHold (lent : WriteLent) : Type 0 where
 -- question 39: the output is as long as the size that `kiban_size` tells
 pub record OutputHolds (lent : WriteLent) : Type 0 where
   pub size : ℕ
-  pub told : size_of_section (builder_in lent.numbers) lent.prefix ≡ given size
+  pub told : size_of_section (builder_in lent.numbers) lent.prefix ≡ Ok size
   pub holds : size ≤ length lent.output
 
 -- question 40 is answered with no: none of the eight seeds serves the area's keys

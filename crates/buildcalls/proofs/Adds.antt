@@ -6,12 +6,14 @@ use Prim.Native.Nat.{ℕ}
 use lib.ListN.{length, take}
 use lib.Seq.{take_at}
 use borrow.Author.Tests.{eq-eqb, ne_eqb}
-use Rattle.num.specs.Answer.{Answer, given, refused}
+use Rattle.std.specs.Prelude.{Result, Ok, Err}
+use Rattle.refusal.specs.declared.Refusal.{Refusal}
+use Rattle.refusal.specs.Refusal.{answer_number}
 use Rattle.num.proofs.Choice.{if_true, if_false}
 use Rattle.builder.specs.declared.Builder.{Builder}
 use Rattle.builder.specs.Offer.{Offer}
 use Rattle.builder.specs.Record.{empty_builder}
-use Rattle.builder.specs.Add.{BuilderState, add_of, added_read, added_number, added_area}
+use Rattle.builder.specs.Add.{BuilderState, add_of, added_area}
 use Rattle.building.specs.Run.{Lending, Run, empty_run, run_for, run_step, run_from, run_of}
 use Rattle.building.specs.Taken.{builder_of}
 use Rattle.building.specs.State.{RunsKeep}
@@ -63,10 +65,10 @@ module _ (c : AddCall) {m : Memory} (left : AsLeft m c.lent.numbers c.lent.area)
     same_add = same_offer c.lent ∙ ap₂ (λ (u : List ℕ) (b : Builder). add_of u b (offered c.lent)) (same_area v left) (same_builder v left)
 
     -- taken
-    add-taken : (s : BuilderState) → adds c.lent ≡ given s → Leaves (run_for run lending.offer (given s)) (left_by c) (taken_with taken c)
-    unfolding lending left_by taken_with run_for builder_numbers added_number added_read
+    add-taken : (s : BuilderState) → adds c.lent ≡ Ok s → Leaves (run_for run lending.offer (Ok s)) (left_by c) (taken_with taken c)
+    unfolding lending left_by taken_with run_for builder_numbers answer_number
     add-taken s q =
-        let zero : c.result ≡ 0 = c.returns ∙ ap (λ (a : Answer BuilderState). added_number (added_read a)) q in
+        let zero : c.result ≡ 0 = c.returns ∙ ap (λ (a : Result BuilderState Refusal). answer_number a) q in
         let l = added_left c s q in
         record {
           numbers = l.0;
@@ -75,14 +77,14 @@ module _ (c : AddCall) {m : Memory} (left : AsLeft m c.lent.numbers c.lent.area)
         }
 
     -- refused
-    add-refused : (n : ℕ) → adds c.lent ≡ refused n → Leaves run (left_by c) (taken_with taken c)
+    add-refused : (n : Refusal) → adds c.lent ≡ Err n → Leaves run (left_by c) (taken_with taken c)
     unfolding left_by taken_with builder_numbers builder_written added_area
     add-refused n q =
         let some : c.result ≡ 0 → ⊥ = λ z. let s = added c z in not_both n s.0 (sym q ∙ s.1) in
         let numbers : c.numbers_after ≡ builder_numbers run.builder
-        = c.leaves ∙ ap (λ (a : Answer BuilderState). builder_written a c.lent.numbers) q ∙ left.same ∙ v.numbers in
+        = c.leaves ∙ ap (λ (a : Result BuilderState Refusal). builder_written a c.lent.numbers) q ∙ left.same ∙ v.numbers in
         let area : c.area_after ≡ run.used ++ left.rest
-        = c.leaves_area ∙ ap (λ (a : Answer BuilderState). added_area a c.lent.area) q ∙ same_area v left in
+        = c.leaves_area ∙ ap (λ (a : Result BuilderState Refusal). added_area a c.lent.area) q ∙ same_area v left in
         record {
           numbers = numbers;
           used = ap₂ (λ (n l : List ℕ). take (place n 3) l) numbers area ∙ take_at run.used left.rest run.builder.used (used_length ls);
@@ -93,10 +95,10 @@ module _ (c : AddCall) {m : Memory} (left : AsLeft m c.lent.numbers c.lent.area)
     unfolding run_of run_step run_for
     one_more = subst⁻¹ (λ (r : Run). Leaves r (left_by c) (taken_with taken c)) (run_more empty_run ls lending) (go _ refl)
       where
-        go : (a : Answer BuilderState) → add_of (run.used ++ lending.rest) run.builder lending.offer ≡ a
+        go : (a : Result BuilderState Refusal) → add_of (run.used ++ lending.rest) run.builder lending.offer ≡ a
             → Leaves (run_for run lending.offer a) (left_by c) (taken_with taken c)
-        go (given s) q = add-taken s (same_add ∙ q)
-        go (refused n) q = add-refused n (same_add ∙ q)
+        go (Ok s) q = add-taken s (same_add ∙ q)
+        go (Err n) q = add-refused n (same_add ∙ q)
 
 -- every list of adds leaves what a run leaves
 pub run_of_lem : (m : Memory) (taken : List Offer) → AddCalls m taken → (ls : List Lending) × Leaves (run_of ls) m taken

@@ -6,21 +6,24 @@ use Prim.Native.Nat.{ℕ}
 use native.Mathlib.Omega.{arith}
 use lib.ListN.{length}
 use lib.Seq.{sets}
-use Rattle.num.specs.Answer.{Answer, given, refused}
-use Rattle.builder.specs.Add.{BuilderState, add_of, added_read, added_number, added_area}
+use Rattle.std.specs.Prelude.{Result, Ok}
+use Rattle.refusal.specs.declared.Refusal.{Refusal}
+use Rattle.builder.specs.Add.{BuilderState, add_of, added_area}
 use Rattle.writer.specs.Write.{section_written}
 use Rattle.numbers.specs.BuilderNumbers.{builder_numbers, builder_in}
 use Rattle.numbers.proofs.BuilderNumbers.{builder_stands}
+use Rattle.refusal.proofs.Asked.{refused_ok}
+use Rattle.std.specs.Prelude.{Err}
 use Rattle.numbered.specs.Numbers.{AddsNumbered, WritesNumbered}
 use Rattle.numbered.proofs.Numbers.{adds_numbered, writes_numbered}
 use Rattle.builds.specs.Built.{offer_from, builder_written, section_len_written}
 use Rattle.buildcalls.specs.BuildCalls.{AddLent, offered, adds, AddCall, writes, WriteCall}
 
-pub same_given : {A : Type 0} {a b : A} → given a ≡ given b → a ≡ b
+pub same_given : {A : Type 0} {a b : A} → ◌≡◌ {A = Result A Refusal} (Ok a) (Ok b) → a ≡ b
 same_given e = cc
 
-pub not_both : {A : Type 0} (n : ℕ) (a : A) → refused n ≡ given a → ⊥
-not_both n a e = let z : ◌≡◌ {A = ℕ} 0 1 = cc in omega arith
+pub not_both : {A : Type 0} (n : Refusal) (a : A) → ◌≡◌ {A = Result A Refusal} (Err n) (Ok a) → ⊥
+not_both n a e = refused_ok e
 
 -- ---- adds
 
@@ -29,38 +32,32 @@ pub same_offer : (lent : AddLent) → adds lent ≡ add_of lent.area (builder_in
 unfolding offered offer_from
 same_offer lent = refl
 
--- a number that is not 0 is the refusal's
-pub refused_add : (x : Answer BuilderState) (n : ℕ) → added_number (added_read x) ≡ n → (n ≡ 0 → ⊥) → x ≡ refused n
-unfolding added_number added_read
-refused_add (given s) n e h = absurd (h (sym e))
-refused_add (refused k) n e h = ap refused e
-
 -- the result 0: the entry was taken
-pub added : (c : AddCall) → c.result ≡ 0 → (s : BuilderState) × (adds c.lent ≡ given s)
+pub added : (c : AddCall) → c.result ≡ 0 → (s : BuilderState) × (adds c.lent ≡ Ok s)
 unfolding AddsNumbered
 added c z =
     let l = c.lent in
     (adds_numbered l.area l.numbers (offer_from l.tombstone l.key l.value l.seq l.new_key l.offset)).zero.0 (sym c.returns ∙ z)
 
-pub added_left : (c : AddCall) (s : BuilderState) → adds c.lent ≡ given s → (c.numbers_after ≡ builder_numbers s.builder) × (c.area_after ≡ s.area)
+pub added_left : (c : AddCall) (s : BuilderState) → adds c.lent ≡ Ok s → (c.numbers_after ≡ builder_numbers s.builder) × (c.area_after ≡ s.area)
 unfolding builder_written added_area
 added_left c s q = (
-  c.leaves ∙ ap (λ (a : Answer BuilderState). builder_written a c.lent.numbers) q ∙ builder_stands c.lent.numbers s.builder c.lent.sixteen,
-  c.leaves_area ∙ ap (λ (a : Answer BuilderState). added_area a c.lent.area) q,
+  c.leaves ∙ ap (λ (a : Result BuilderState Refusal). builder_written a c.lent.numbers) q ∙ builder_stands c.lent.numbers s.builder c.lent.sixteen,
+  c.leaves_area ∙ ap (λ (a : Result BuilderState Refusal). added_area a c.lent.area) q,
 )
 
 -- ---- writing
 
 -- the result 0: the section was written
-pub wrote : (c : WriteCall) → c.result ≡ 0 → (s : List ℕ) × (writes c.lent ≡ given s)
+pub wrote : (c : WriteCall) → c.result ≡ 0 → (s : List ℕ) × (writes c.lent ≡ Ok s)
 unfolding WritesNumbered
 wrote c z =
     let l = c.lent in
     (writes_numbered l.area l.numbers l.prefix l.room64 l.room32 (length l.output)).zero.0 (sym c.returns ∙ z)
 
-pub wrote_left : (c : WriteCall) (s : List ℕ) → writes c.lent ≡ given s → (c.output_after ≡ sets c.lent.output 0 s) × (c.len_after ≡ length s)
+pub wrote_left : (c : WriteCall) (s : List ℕ) → writes c.lent ≡ Ok s → (c.output_after ≡ sets c.lent.output 0 s) × (c.len_after ≡ length s)
 unfolding section_written section_len_written
 wrote_left c s q = (
-  c.leaves_output ∙ ap (λ (a : Answer (List ℕ)). section_written a c.lent.output) q,
-  c.leaves_len ∙ ap (λ (a : Answer (List ℕ)). section_len_written a c.lent.len) q,
+  c.leaves_output ∙ ap (λ (a : Result (List ℕ) Refusal). section_written a c.lent.output) q,
+  c.leaves_len ∙ ap (λ (a : Result (List ℕ) Refusal). section_len_written a c.lent.len) q,
 )

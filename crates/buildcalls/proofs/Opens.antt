@@ -5,10 +5,11 @@ use mathlib.Core.List.{List}
 use Prim.Native.Nat.{ℕ}
 use native.Mathlib.Omega.{arith}
 use lib.ListN.{length}
-use Rattle.num.specs.Answer.{Answer}
+use Rattle.std.specs.Prelude.{Result}
+use Rattle.refusal.specs.declared.Refusal.{Refusal}
+use Rattle.refusal.specs.Refusal.{answer_number}
 use Rattle.header.specs.declared.Opened.{Opened}
-use Rattle.header.specs.Header.{header_number}
-use Rattle.packing.specs.Packing.{PackedForm, open_packed_of, packed_read, packed_number}
+use Rattle.packing.specs.Packing.{PackedForm, open_packed_of, packed_read}
 use Rattle.opening.specs.Open.{open_of}
 use Rattle.packed.specs.Packed.{packed_bytes}
 use Rattle.admission.specs.Admits.{OpensExactly}
@@ -48,17 +49,17 @@ module _ {s «data» blocks : List ℕ} (lent : Lent) (these : LentThese s «dat
 
 -- P4 at the entries
 pub open_built_calls : OpenBuiltCalls
-unfolding OpenBuiltCalls OpensAs PacksAs header_number packed_number packed_read
+unfolding OpenBuiltCalls OpensAs PacksAs answer_number packed_read
 open_built_calls taken prefix s «data» blocks b =
     record {
       plain = λ c these half.
           let x = as_record b c.lent.scratch half in
-          c.returns ∙ ap header_number (opens_these c.lent these ∙ x.1.0);
+          c.returns ∙ ap (λ (a : Result Opened Refusal). answer_number a) (opens_these c.lent these ∙ x.1.0);
       packed = λ c these half room.
           let x = as_record b c.lent.scratch half in
           let n = packed_fits b c.lent.scratch half x.0 x.1.0 in
           c.returns
-          ∙ ap (λ (a : Answer PackedForm). packed_number (packed_read a)) (packs_these c.lent these (length c.output) ∙ x.1.1 (length c.output) (omega arith));
+          ∙ ap (λ (a : Result PackedForm Refusal). answer_number (packed_read a)) (packs_these c.lent these (length c.output) ∙ x.1.1 (length c.output) (omega arith));
     }
 
 -- a linker holds the data and the blocks that its opening was lent

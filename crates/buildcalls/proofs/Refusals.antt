@@ -3,30 +3,30 @@
 use mathlib.Core.Path.{◌≡◌, refl, ◌∙◌}
 use mathlib.Core.List.{List}
 use Prim.Native.Nat.{ℕ}
-use Rattle.num.specs.Answer.{Answer, given, refused}
-use Rattle.builder.specs.Record.{sized_read, sized_number}
-use Rattle.builder.specs.Add.{BuilderState, added_read, added_number, added_area}
+use Rattle.std.specs.Prelude.{Result, Ok, Err}
+use Rattle.refusal.specs.declared.Refusal.{Refusal}
+use Rattle.refusal.specs.Refusal.{answer_number}
+use Rattle.builder.specs.Add.{BuilderState, added_area}
 use Rattle.writer.specs.Write.{section_written}
-use Rattle.writing.specs.Wrote.{wrote_read, wrote_number}
 use Rattle.builds.specs.Built.{builder_written, size_written, section_len_written}
 use Rattle.buildcalls.specs.BuildCalls.{adds, writes, BuildRefusalsWriteNothing}
 
-add_kept : (x : Answer BuilderState) (area numbers : List ℕ) → (added_number (added_read x) ≡ 0 → ⊥)
+add_kept : (x : Result BuilderState Refusal) (area numbers : List ℕ) → (answer_number x ≡ 0 → ⊥)
     → (added_area x area ≡ area) × (builder_written x numbers ≡ numbers)
-unfolding added_number added_read added_area builder_written
-add_kept (given s) area numbers n = absurd (n refl)
-add_kept (refused k) area numbers n = (refl, refl)
+unfolding answer_number added_area builder_written
+add_kept (Ok s) area numbers n = absurd (n refl)
+add_kept (Err k) area numbers n = (refl, refl)
 
-size_kept : (x : Answer ℕ) (before : ℕ) → (sized_number (sized_read x) ≡ 0 → ⊥) → size_written x before ≡ before
-unfolding sized_number sized_read size_written
-size_kept (given k) before n = absurd (n refl)
-size_kept (refused k) before n = refl
+size_kept : (x : Result ℕ Refusal) (before : ℕ) → (answer_number x ≡ 0 → ⊥) → size_written x before ≡ before
+unfolding answer_number size_written
+size_kept (Ok k) before n = absurd (n refl)
+size_kept (Err k) before n = refl
 
-write_kept : (x : Answer (List ℕ)) (output : List ℕ) (len : ℕ) → (wrote_number (wrote_read x) ≡ 0 → ⊥)
+write_kept : (x : Result (List ℕ) Refusal) (output : List ℕ) (len : ℕ) → (answer_number x ≡ 0 → ⊥)
     → (section_written x output ≡ output) × (section_len_written x len ≡ len)
-unfolding wrote_number wrote_read section_written section_len_written
-write_kept (given s) output len n = absurd (n refl)
-write_kept (refused k) output len n = (refl, refl)
+unfolding answer_number section_written section_len_written
+write_kept (Ok s) output len n = absurd (n refl)
+write_kept (Err k) output len n = (refl, refl)
 
 pub build_refusals_write_nothing : BuildRefusalsWriteNothing
 build_refusals_write_nothing =

@@ -7,7 +7,11 @@ use Prim.Native.Nat.{ℕ, ◌≤◌}
 use native.Mathlib.Omega.{arith}
 use lib.ListN.{length, take}
 use borrow.Author.Tests.{leb-true}
-use Rattle.num.specs.Answer.{Answer, given, refused}
+use Rattle.std.specs.Prelude.{Result, Ok, Err}
+use Rattle.refusal.specs.declared.Refusal.{Refusal}
+use Rattle.refusal.specs.declared.Refusal.TheVariants as refusal
+use Rattle.refusal.specs.Refusal.{answer_number}
+use Rattle.refusal.proofs.Asked.{refused_ok}
 use Rattle.num.proofs.Choice.{if_true, if_first, both_true}
 use Rattle.num.proofs.Lists.{part_sets_same}
 use Rattle.encoding.specs.Encoding.{encoding_of, section_len_of}
@@ -15,10 +19,10 @@ use Rattle.area.specs.Area.{keys_in_of}
 use Rattle.construction.specs.Construct.{construct_of}
 use Rattle.builder.specs.declared.Builder.{Builder}
 use Rattle.builder.specs.Offer.{Offer}
-use Rattle.builder.specs.Record.{sizeable, size_of_section, sized_read, sized_number}
+use Rattle.builder.specs.Record.{sizeable, size_of_section}
+use Rattle.builder.specs.Add.{BuilderState}
 use Rattle.readback.specs.ReadBack.{reads_back_of}
 use Rattle.writer.specs.Write.{section_for, write_of}
-use Rattle.writing.specs.Wrote.{wrote_read, wrote_number}
 use Rattle.building.specs.Run.{Lending, run_of}
 use Rattle.building.specs.Taken.{groups_of, area_of, builder_of}
 use Rattle.building.specs.State.{RunsKeep}
@@ -29,7 +33,7 @@ use Rattle.building.proofs.Promises.{size_is_length, same_sections}
 use Rattle.numbers.specs.BuilderNumbers.{builder_numbers, builder_in}
 use Rattle.builds.specs.Built.{size_written}
 use Rattle.buildcalls.specs.BuildCalls.{SizeCall, writes, WriteCall, Memory, AsLeft, numbers_for, AddsKeep, WriteCalls, Built, SizeCalls, SameSectionCalls}
-use Rattle.buildcalls.proofs.Answers.{same_given, not_both, refused_add, wrote, wrote_left}
+use Rattle.buildcalls.proofs.Answers.{same_given, wrote, wrote_left}
 use Rattle.buildcalls.proofs.Adds.{Leaves, same_builder, same_area, lending, same_add, run_of_lem}
 
 -- what the questions leave of a section that is written
@@ -37,17 +41,17 @@ pub record Fits (area : List ℕ) (b : Builder) (prefix room : ℕ) (s : List �
   pub sized : sizeable b ≡ true
   pub read : reads_back_of area b ≡ true
   pub inside : section_len_of (encoding_of b.totals) b.totals prefix ≤ room
-  pub bytes : section_for area b prefix (construct_of (keys_in_of area b.totals.keys)) ≡ given s
+  pub bytes : section_for area b prefix (construct_of (keys_in_of area b.totals.keys)) ≡ Ok s
 
-pub fits : (area : List ℕ) (b : Builder) (prefix room64 room32 room : ℕ) (s : List ℕ) → write_of area b prefix room64 room32 room ≡ given s
+pub fits : (area : List ℕ) (b : Builder) (prefix room64 room32 room : ℕ) (s : List ℕ) → write_of area b prefix room64 room32 room ≡ Ok s
     → Fits area b prefix room s
 unfolding write_of
 fits area b prefix room64 room32 room s q =
-    let q₀ = if_first _ _ _ _ (not_both 35 s) q in
-    let q₁ = if_first _ _ _ _ (not_both 36 s) q₀.1 in
-    let q₂ = if_first _ _ _ _ (not_both 37 s) q₁.1 in
-    let q₃ = if_first _ _ _ _ (not_both 38 s) q₂.1 in
-    let q₄ = if_first _ _ _ _ (not_both 39 s) q₃.1 in
+    let q₀ = if_first _ _ _ _ refused_ok q in
+    let q₁ = if_first _ _ _ _ refused_ok q₀.1 in
+    let q₂ = if_first _ _ _ _ refused_ok q₁.1 in
+    let q₃ = if_first _ _ _ _ refused_ok q₂.1 in
+    let q₄ = if_first _ _ _ _ refused_ok q₃.1 in
     let r = both_true _ _ q₂.0 in
     record { sized = r.0; read = r.1; inside = leb-true _ _ q₄.0; bytes = q₄.1 }
 
@@ -58,14 +62,14 @@ module _ (ls : List Lending) {m : Memory} {taken : List Offer} (v : Leaves (run_
   size_same c e = ap (λ (b : Builder). size_of_section b c.prefix) (same_builder v (record { same = e; rest = []; begins = refl }))
 
   -- the size told
-  size_told : (c : SizeCall) → c.numbers ≡ m.numbers → size_of_section (builder_in c.numbers) c.prefix ≡ given (size_for taken c.prefix)
+  size_told : (c : SizeCall) → c.numbers ≡ m.numbers → size_of_section (builder_in c.numbers) c.prefix ≡ Ok (size_for taken c.prefix)
   unfolding RunsKeep size_of_section size_for builder_of
   size_told c e =
       let k = runs_keep ls in
       size_same c e
-      ∙ if_true _ _ (refused 37) k.sizes
-      ∙ ap (λ (b : Builder). given (section_len_of (encoding_of b.totals) b.totals c.prefix)) k.record_is
-      ∙ ap (λ (t : List Offer). given (size_for t c.prefix)) (sym v.entries)
+      ∙ if_true _ _ (Err refusal.Builder) k.sizes
+      ∙ ap (λ (b : Builder). Ok (section_len_of (encoding_of b.totals) b.totals c.prefix)) k.record_is
+      ∙ ap (λ (t : List Offer). Ok (size_for t c.prefix)) (sym v.entries)
 
   -- ---- a call of writing
 
@@ -81,7 +85,7 @@ module _ (ls : List Lending) {m : Memory} {taken : List Offer} (v : Leaves (run_
         subst⁻¹ (λ (t : List Offer). Outcome t c.lent.prefix c.lent.room64 c.lent.room32 (length c.lent.output) (writes c.lent)) v.entries
         ((writes_exactly ls left.rest c.lent.prefix c.lent.room64 c.lent.room32 (length c.lent.output) (writes c.lent)).0 (sym write_same))
 
-    module _ (s : List ℕ) (q : writes c.lent ≡ given s) where
+    module _ (s : List ℕ) (q : writes c.lent ≡ Ok s) where
       section-of : BuiltSection ls c.lent.prefix s
       section-of =
           record {
@@ -98,14 +102,14 @@ module _ (ls : List Lending) {m : Memory} {taken : List Offer} (v : Leaves (run_
       section_inside =
           let f = fits c.lent.area (builder_in c.lent.numbers) c.lent.prefix c.lent.room64 c.lent.room32 (length c.lent.output) s q in
           let l = f.inside in
-          let size = sym (if_true _ _ (refused 37) f.sized) ∙ ap (λ (b : Builder). size_of_section b c.lent.prefix) (same_builder v left)
+          let size = sym (if_true _ _ (Err refusal.Builder) f.sized) ∙ ap (λ (b : Builder). size_of_section b c.lent.prefix) (same_builder v left)
           ∙ size_is_length ls c.lent.prefix s section-of in
           let e = same_given size in
           omega arith
 
 -- 37 is no outcome
-not_37 : (taken : List Offer) (prefix room64 room32 room : ℕ) (a : Answer (List ℕ)) → Outcome taken prefix room64 room32 room a → wrote_number (wrote_read a) ≡ 37 → ⊥
-unfolding wrote_number wrote_read
+not_37 : (taken : List Offer) (prefix room64 room32 room : ℕ) (a : Result (List ℕ) Refusal) → Outcome taken prefix room64 room32 room a → answer_number a ≡ 37 → ⊥
+unfolding answer_number
 not_37 taken prefix room64 room32 room a (prefix_long p) e = absurd (omega arith)
 not_37 taken prefix room64 room32 room a (no_entry p n) e = absurd (omega arith)
 not_37 taken prefix room64 room32 room a (scratch_short p h s) e = absurd (omega arith)
@@ -116,7 +120,7 @@ not_37 taken prefix room64 room32 room a (section p h s l c q) e = absurd (omega
 -- ---- the demands
 
 pub adds_keep : AddsKeep
-unfolding AddsKeep RunsKeep numbers_for builder_numbers builder_of sized_number sized_read size_written
+unfolding AddsKeep RunsKeep numbers_for builder_numbers builder_of answer_number size_written
 adds_keep m taken calls =
     let r = run_of_lem m taken calls in
     let ls = r.0 in
@@ -127,10 +131,10 @@ adds_keep m taken calls =
       used = v.used ∙ k.area_is ∙ ap (λ (t : List Offer). area_of (groups_of t)) (sym v.entries);
       adding = λ c left e.
           k.adds (lending c left)
-          (sym (same_add c left ls taken v) ∙ refused_add _ 37 (sym c.returns ∙ e) (λ z. omega arith));
+          (ap (λ (a : Result BuilderState Refusal). answer_number a) (sym (same_add c left ls taken v)) ∙ (sym c.returns ∙ e));
       sizing = λ c e.
           let s = size_told ls v c e in
-          (c.returns ∙ ap (λ (a : Answer ℕ). sized_number (sized_read a)) s, c.leaves ∙ ap (λ (a : Answer ℕ). size_written a c.before) s);
+          (c.returns ∙ ap (λ (a : Result ℕ Refusal). answer_number a) s, c.leaves ∙ ap (λ (a : Result ℕ Refusal). size_written a c.before) s);
       writing = λ c left e. not_37 _ _ _ _ _ _ (outcome ls v c left) (sym c.returns ∙ e);
     }
 
@@ -169,7 +173,7 @@ size_calls taken prefix s b c e p =
     let r = by_run taken prefix s b in
     let v = r.1.leaves in
     c.leaves
-    ∙ ap (λ (a : Answer ℕ). size_written a c.before)
+    ∙ ap (λ (a : Result ℕ Refusal). size_written a c.before)
     (size_same r.0 v c e ∙ ap (size_of_section (run_of r.0).builder) p ∙ size_is_length r.0 prefix s r.1.section)
 
 -- P8 at the entries

@@ -6,7 +6,10 @@ use Prim.Native.Nat.{ℕ, ◌+◌, ◌≤◌}
 use native.Mathlib.Omega.{arith}
 use lib.ListN.{length, get_or, drop, length-append}
 use lib.Seq.{sets}
-use Rattle.num.specs.Answer.{Answer, given, refused}
+use Rattle.std.specs.Prelude.{Ok}
+use Rattle.std.specs.Prelude.{Result, Err}
+use Rattle.refusal.specs.declared.Refusal.{Refusal}
+use Rattle.refusal.proofs.Asked.{refused_ok}
 use Rattle.num.specs.Number.{Bytes, le_bytes}
 use Rattle.num.proofs.Choice.{if_case, if_true, if_false}
 use Rattle.num.proofs.Lists.{drop_sets_behind}
@@ -81,7 +84,7 @@ module _ (area : List ℕ) (b : Builder) (e : Offer) (p : Passed area b e) where
       drop_sets_behind (version_bytes e) (sets area (b.last_key + 4) count) b.used used (omega arith)
       ∙ drop_sets_behind count area (b.last_key + 4) used (omega arith))
 
-add_behind : (c : AddCall) (s : BuilderState) → adds c.lent ≡ given s → c.result ≡ 0
+add_behind : (c : AddCall) (s : BuilderState) → adds c.lent ≡ Ok s → c.result ≡ 0
     → (place c.numbers_after 3 ≤ length c.lent.area) × (drop (place c.numbers_after 3) c.area_after ≡ drop (place c.numbers_after 3) c.lent.area)
 unfolding builder_numbers
 add_behind c s q z =
@@ -100,12 +103,12 @@ add_behind c s q z =
 -- ---- behind a section that was written
 
 -- its length is the one that question 39 asks for
-section_long : (area : List ℕ) (b : Builder) (prefix : ℕ) (a : Answer Constructed) (s : List ℕ) → AreaMeasured area b.totals
-    → section_for area b prefix a ≡ given s → length s ≡ section_len_of (encoding_of b.totals) b.totals prefix
+section_long : (area : List ℕ) (b : Builder) (prefix : ℕ) (a : Result Constructed Refusal) (s : List ℕ) → AreaMeasured area b.totals
+    → section_for area b prefix a ≡ Ok s → length s ≡ section_len_of (encoding_of b.totals) b.totals prefix
 unfolding section_for
-section_long area b prefix (given c) s m e =
+section_long area b prefix (Ok c) s m e =
     ap length (sym (same_given e)) ∙ m.size c.seed (λ x. get_or c.placement.pilots x 0) (λ k. get_or c.placement.slots k 0) prefix
-section_long area b prefix (refused n) s m e = absurd (not_both n s e)
+section_long area b prefix (Err n) s m e = refused_ok e
 
 section_inside : (area : List ℕ) (b : Builder) (prefix room : ℕ) (s : List ℕ) → Bytes area → Fits area b prefix room s → length s ≤ room
 unfolding ReadBackMeasured
@@ -114,7 +117,7 @@ section_inside area b prefix room s bytes f =
     let l = f.inside in
     omega arith
 
-write_behind : (c : WriteCall) (s : List ℕ) → Bytes c.lent.area → writes c.lent ≡ given s
+write_behind : (c : WriteCall) (s : List ℕ) → Bytes c.lent.area → writes c.lent ≡ Ok s
     → (c.len_after ≤ length c.lent.output) × (drop c.len_after c.output_after ≡ drop c.len_after c.lent.output)
 write_behind c s bytes q =
     let l = c.lent in

@@ -1,16 +1,16 @@
 -- The demands on building, said of the entries that are called (include/kiban.h): a list of `kiban_add` calls from sixteen zeros on, then
 -- `kiban_size` and `kiban_write`, then the openings and lookups of crates/calls. A call is what its entry was lent, its result and what it left, in
 -- the words of its contract (crates/kiban/src/lib.rt).
-use Rattle.std.specs.Prelude.{◌≡◌, true, false, List, [], ◌∷◌, ◌++◌, ℕ, ◌+◌, ◌^◌, ◌<◌, ◌≤◌, eqb, length, take, drop}
-use Rattle.num.specs.Answer.{Answer}
+use Rattle.std.specs.Prelude.{◌≡◌, true, false, List, [], ◌∷◌, ◌++◌, ℕ, ◌+◌, ◌^◌, ◌<◌, ◌≤◌, eqb, length, take, drop, Result}
+use Rattle.refusal.specs.declared.Refusal.{Refusal}
+use Rattle.refusal.specs.Refusal.{answer_number}
 use Rattle.num.specs.Choice.{when◌then◌else◌}
 use Rattle.num.specs.Number.{Bytes, le_at}
 use Rattle.sstable.specs.declared.Kind.TheVariants.{Put, Tombstone}
 use Rattle.builder.specs.Offer.{Offer}
-use Rattle.builder.specs.Record.{size_of_section, sized_read, sized_number}
-use Rattle.builder.specs.Add.{BuilderState, add_of, added_read, added_number, added_area}
+use Rattle.builder.specs.Record.{size_of_section}
+use Rattle.builder.specs.Add.{BuilderState, add_of, added_area}
 use Rattle.writer.specs.Write.{write_of, section_written}
-use Rattle.writing.specs.Wrote.{wrote_read, wrote_number}
 use Rattle.building.specs.Taken.{groups_of, area_of, group_totals, builder_of}
 use Rattle.building.specs.InOrder.{InOrder, HoldsJust, ScratchHolds, SameAdded}
 use Rattle.building.specs.Builds.{size_for, Outcome}
@@ -47,7 +47,7 @@ offered lent =
     }
 
 -- what it answers, in the words of the contract
-abbrev pub adds : AddLent → Answer BuilderState
+abbrev pub adds : AddLent → Result BuilderState Refusal
 adds lent =
     add_of lent.area (builder_in lent.numbers) (offer_from lent.tombstone lent.key lent.value lent.seq lent.new_key lent.offset)
 
@@ -57,7 +57,7 @@ pub record AddCall : Type 0 where
   pub result : ℕ
   pub area_after : List ℕ
   pub numbers_after : List ℕ
-  pub returns : result ≡ added_number (added_read (adds lent))
+  pub returns : result ≡ answer_number (adds lent)
   pub leaves_area : area_after ≡ added_area (adds lent) lent.area
   pub leaves : numbers_after ≡ builder_written (adds lent) lent.numbers
 
@@ -68,7 +68,7 @@ pub record SizeCall : Type 0 where
   pub before : ℕ
   pub result : ℕ
   pub after : ℕ
-  pub returns : result ≡ sized_number (sized_read (size_of_section (builder_in numbers) prefix))
+  pub returns : result ≡ answer_number (size_of_section (builder_in numbers) prefix)
   pub leaves : after ≡ size_written (size_of_section (builder_in numbers) prefix) before
 
 -- what `kiban_write` is lent: of both scratches their lengths alone matter
@@ -81,7 +81,7 @@ pub record WriteLent : Type 0 where
   pub output : List ℕ
   pub len : ℕ
 
-abbrev pub writes : WriteLent → Answer (List ℕ)
+abbrev pub writes : WriteLent → Result (List ℕ) Refusal
 writes lent = write_of lent.area (builder_in lent.numbers) lent.prefix lent.room64 lent.room32 (length lent.output)
 
 -- a call of `kiban_write`
@@ -90,7 +90,7 @@ pub record WriteCall : Type 0 where
   pub result : ℕ
   pub output_after : List ℕ
   pub len_after : ℕ
-  pub returns : result ≡ wrote_number (wrote_read (writes lent))
+  pub returns : result ≡ answer_number (writes lent)
   pub leaves_output : output_after ≡ section_written (writes lent) lent.output
   pub leaves_len : len_after ≡ section_len_written (writes lent) lent.len
 
@@ -150,9 +150,9 @@ AddsKeep = (m : Memory) (taken : List Offer) → AddCalls m taken → Kept m tak
 
 -- a call of `kiban_write` behind a list of adds has one of the outcomes of `Outcome`, each in its case alone, and returns and leaves what it says
 pub record WriteOutcome (taken : List Offer) (c : WriteCall) : Type 0 where
-  pub answer : Answer (List ℕ)
+  pub answer : Result (List ℕ) Refusal
   pub outcome : Outcome taken c.lent.prefix c.lent.room64 c.lent.room32 (length c.lent.output) answer
-  pub result : c.result ≡ wrote_number (wrote_read answer)
+  pub result : c.result ≡ answer_number answer
   pub output : c.output_after ≡ section_written answer c.lent.output
   pub len : c.len_after ≡ section_len_written answer c.lent.len
 

@@ -5,12 +5,13 @@ use mathlib.Core.Bool.{true, false}
 use mathlib.Core.List.{List, [], ◌∷◌}
 use Prim.Native.Nat.{ℕ}
 use lib.ListN.{replicate}
-use Rattle.num.specs.Answer.{Answer, given, refused}
+use Rattle.std.specs.Prelude.{Result, Ok, Err}
+use Rattle.refusal.specs.declared.Refusal.{Refusal}
+use Rattle.refusal.specs.declared.Refusal.TheVariants as refusal
 use Rattle.num.specs.Choice.{choice_defs}
 use Rattle.num.specs.Number.{le_at, le_bytes}
 use Rattle.num.specs.Order.{common_prefix_len}
 use Rattle.crc32.specs.V42.{crc_defs}
-use Rattle.sstable.specs.Kind.{kind_number}
 use Rattle.sstable.specs.Limits.{limit_defs}
 use Rattle.sstable.specs.declared.Kind.TheVariants.{Put, Tombstone}
 use Rattle.encoding.specs.Encoding.{encoding_defs}
@@ -27,16 +28,16 @@ worked_offers =
     ∷ []
 
 -- one add after another, up to the first refusal
-unfoldable pub add_all : BuilderState → List Offer → Answer BuilderState
-add_all b [] = given b
-add_all b (e ∷ es) = elim (add_of b.area b.builder e) [ given c ↦ add_all c es | refused n ↦ refused n ]
+unfoldable pub add_all : BuilderState → List Offer → Result BuilderState Refusal
+add_all b [] = Ok b
+add_all b (e ∷ es) = elim (add_of b.area b.builder e) [ Ok c ↦ add_all c es | Err r ↦ Err r ]
 
 -- an area of this many bytes, all of them 170
 unfoldable pub empty_in : ℕ → BuilderState
 empty_in room = record { area = replicate room 170; builder = empty_builder }
 
 worked : add_all (empty_in 97) worked_offers
-    ≡ given (record {
+    ≡ Ok (record {
       area =
           2 ∷ 0 ∷ 0 ∷ 0 ∷ 2 ∷ 0 ∷ 0 ∷ 0 ∷ 97 ∷ 98
           ∷ 7 ∷ 0 ∷ 0 ∷ 0 ∷ 0 ∷ 0 ∷ 0 ∷ 0 ∷ 1 ∷ 3 ∷ 0 ∷ 0 ∷ 0 ∷ 23 ∷ 0 ∷ 0 ∷ 0 ∷ 0 ∷ 0 ∷ 0 ∷ 0 ∷ 103 ∷ 186 ∷ 142 ∷ 235
@@ -63,15 +64,15 @@ worked : add_all (empty_in 97) worked_offers
             anchor = 0;
           };
     })
-unfolding add_all empty_in worked_offers add_defs builder_defs area_defs offer_defs choice_defs encoding_defs crc_defs limit_defs le_at le_bytes common_prefix_len kind_number
+unfolding add_all empty_in worked_offers add_defs builder_defs area_defs offer_defs choice_defs encoding_defs crc_defs limit_defs le_at le_bytes common_prefix_len
 worked = refl
 
 -- one byte less is 34
-no_room : add_all (empty_in 94) worked_offers ≡ refused 34
-unfolding add_all empty_in worked_offers add_defs builder_defs area_defs offer_defs choice_defs encoding_defs crc_defs limit_defs le_at le_bytes common_prefix_len kind_number
+no_room : add_all (empty_in 94) worked_offers ≡ Err refusal.AreaRoom
+unfolding add_all empty_in worked_offers add_defs builder_defs area_defs offer_defs choice_defs encoding_defs crc_defs limit_defs le_at le_bytes common_prefix_len
 no_room = refl
 
 -- the empty builder's size is 69, and 101 with a prefix
-empty_size : (size_of_section empty_builder 0 ≡ given 69) × (size_of_section empty_builder 1 ≡ given 101)
+empty_size : (size_of_section empty_builder 0 ≡ Ok 69) × (size_of_section empty_builder 1 ≡ Ok 101)
 unfolding builder_defs choice_defs encoding_defs
 empty_size = (refl, refl)

@@ -1,13 +1,12 @@
 -- Adding an entry to a builder: questions 30 to 34 and 37 (document 01, "Building").
-use Rattle.std.specs.Prelude.{ℕ, ◌+◌, ◌^◌, List, ◌++◌, leb, ltb, length}
+use Rattle.std.specs.Prelude.{ℕ, ◌+◌, ◌^◌, List, ◌++◌, leb, ltb, length, Result, Ok, Err}
 use Rattle.std.proofs.lemmas.List.Edits.{sets}
 use Rattle.num.specs.Choice.{when◌then◌else◌, ask◌otherwise◌then◌, both, either}
 use Rattle.num.specs.Number.{le_bytes}
-use Rattle.num.specs.Answer.{Answer, given, refused}
+use Rattle.refusal.specs.declared.Refusal.{Refusal}
+use Rattle.refusal.specs.declared.Refusal.TheVariants as refusal
 use Rattle.sstable.specs.Limits.{within_limits}
 use Rattle.builder.specs.declared.Builder.{Builder}
-use Rattle.builder.specs.declared.Added.{Added}
-use Rattle.builder.specs.declared.Added.TheVariants as added
 use Rattle.area.specs.Area.{area_versions}
 use Rattle.builder.specs.Offer.{Offer, head_bytes, version_bytes, entry_len}
 use Rattle.builder.specs.Record.{Counted, builder_after, standing}
@@ -36,32 +35,32 @@ pub record BuilderState : Type 0 where
   pub builder : Builder
 
 -- the questions in their order; 37 goes before 34, which counts from the used bytes
-unfoldable pub add_of : List ℕ → Builder → Offer → Answer BuilderState
+unfoldable pub add_of : List ℕ → Builder → Offer → Result BuilderState Refusal
 add_of area b e =
-    ask within_limits (length e.key) (length e.value) otherwise refused 30 then
-    ask either e.new_key (ltb 0 b.totals.keys) otherwise refused 31 then
-    ask leb b.totals.last_value_offset e.offset otherwise refused 32 then
-    ask leb (b.totals.keys + (when e.new_key then 1 else 0)) max_keys otherwise refused 33 then
-    ask standing area b otherwise refused 37 then
-    ask both (leb (b.used + entry_len e) (length area)) (leb (b.used + entry_len e) (2 ^ 30)) otherwise refused 34 then
-    given (record { area = area_after_of area b e; builder = builder_after area b (counted_of area b e) })
+    ask within_limits (length e.key) (length e.value) otherwise Err refusal.AddLimits then  -- 30
+    ask either e.new_key (ltb 0 b.totals.keys) otherwise Err refusal.FirstNotNew then  -- 31
+    ask leb b.totals.last_value_offset e.offset otherwise Err refusal.OffsetFalls then  -- 32
+    ask leb (b.totals.keys + (when e.new_key then 1 else 0)) max_keys otherwise Err refusal.TooManyKeys then  -- 33
+    ask standing area b otherwise Err refusal.Builder then  -- 37
+    ask both (leb (b.used + entry_len e) (length area)) (leb (b.used + entry_len e) (2 ^ 30)) otherwise Err refusal.AreaRoom then  -- 34
+    Ok (record { area = area_after_of area b e; builder = builder_after area b (counted_of area b e) })
 
--- the answer: the record, or the number
-unfoldable pub added_read : Answer BuilderState → Added
-added_read (given b) = added.Taken b.builder
-added_read (refused n) = added.Refused n
+-- what the questions answer, without what an add gives
+unfoldable pub asked_of : {A : Type 0} → Result A Refusal → Result (Unit {0}) Refusal
+asked_of (Ok x) = Ok tt
+asked_of (Err e) = Err e
 
--- the number of the question that an add fails, 0 if it fails none
-unfoldable pub added_number : Added → ℕ
-added_number (added.Taken b) = 0
-added_number (added.Refused n) = n
+-- the record, or the refusal
+unfoldable pub added_builder : Result BuilderState Refusal → Result Builder Refusal
+added_builder (Ok b) = Ok b.builder
+added_builder (Err e) = Err e
 
 -- the area behind an add: unchanged on a refusal
-unfoldable pub added_area : Answer BuilderState → List ℕ → List ℕ
-added_area (given b) before = b.area
-added_area (refused n) before = before
+unfoldable pub added_area : Result BuilderState Refusal → List ℕ → List ℕ
+added_area (Ok b) before = b.area
+added_area (Err e) before = before
 
 -- for proofs alone: `unfolding add_defs` opens the definitions of this file
 unfoldable pub add_defs : ℕ
-unfolding versions_with area_after_of counted_of add_of added_read added_number added_area
+unfolding versions_with area_after_of counted_of add_of asked_of added_builder added_area
 add_defs = 0

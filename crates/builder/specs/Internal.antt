@@ -1,23 +1,11 @@
 -- Not on the reading path: what the functions of this crate hand to each other.
-use Rattle.std.specs.Prelude.{ℕ, ◌+◌, ◌^◌, ◌≤◌, ◌<◌, ◌≡◌, Bool, true, List, ltb, length}
+use Rattle.std.specs.Prelude.{ℕ, ◌+◌, ◌^◌, ◌≤◌, ◌<◌, ◌≡◌, true, List, ltb, length}
 use Rattle.num.specs.Choice.{either}
 use Rattle.sstable.specs.Limits.{within_limits}
 use Rattle.builder.specs.declared.Builder.{Builder}
 use Rattle.area.specs.Area.{head_len, area_key_len}
 use Rattle.builder.specs.Offer.{Offer, entry_len}
 use Rattle.builder.specs.Record.{standing}
-use Rattle.builder.specs.Add.{add_of, added_read, added_number}
-
--- an offer with a key and a value of these lengths, this mark and this offset
-pub record Like (e : Offer) (keyLen valueLen : ℕ) (new : Bool) (place : ℕ) : Type 0 where
-  pub key_len : length e.key ≡ keyLen
-  pub value_len : length e.value ≡ valueLen
-  pub new_key : e.new_key ≡ new
-  pub offset : e.offset ≡ place
-
--- the number with which every such offer is refused, 0 if it is taken
-abbrev pub RefusedWith : List ℕ → Builder → ℕ → ℕ → Bool → ℕ → ℕ → Type 0
-RefusedWith area b keyLen valueLen new place n = (e : Offer) → Like e keyLen valueLen new place → n ≡ added_number (added_read (add_of area b e))
 
 -- what the questions leave of an entry that is taken
 pub record Passed (area : List ℕ) (b : Builder) (e : Offer) : Type 0 where

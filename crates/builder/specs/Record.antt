@@ -1,13 +1,12 @@
 -- The builder's record: what an entry adds to it, and question 37 of it.
-use Rattle.std.specs.Prelude.{ℕ, ◌+◌, ◌-◌, ◌%◌, ◌^◌, min, max, Bool, List, eqb, leb, length}
+use Rattle.std.specs.Prelude.{ℕ, ◌+◌, ◌-◌, ◌%◌, ◌^◌, min, max, Bool, List, eqb, leb, length, Result, Ok, Err}
 use Rattle.num.specs.Choice.{when◌then◌else◌, ask◌otherwise◌then◌, both, either}
-use Rattle.num.specs.Answer.{Answer, given, refused}
 use Rattle.num.specs.Order.{common_prefix_len}
+use Rattle.refusal.specs.declared.Refusal.{Refusal}
+use Rattle.refusal.specs.declared.Refusal.TheVariants as refusal
 use Rattle.encoding.specs.declared.Totals.{Totals}
 use Rattle.encoding.specs.Encoding.{group, encoding_of, section_len_of}
 use Rattle.builder.specs.declared.Builder.{Builder}
-use Rattle.builder.specs.declared.Sized.{Sized}
-use Rattle.builder.specs.declared.Sized.TheVariants as sized
 use Rattle.area.specs.Area.{head_len, area_version_len, area_key_len, area_versions, area_key}
 
 -- the empty builder
@@ -104,22 +103,12 @@ unfoldable pub sizeable : Builder → Bool
 sizeable b = both (totals_small b) (leb b.totals.min_seq b.totals.max_seq)
 
 -- the size of the section that is written with a scan prefix, or 37
-unfoldable pub size_of_section : Builder → ℕ → Answer ℕ
+unfoldable pub size_of_section : Builder → ℕ → Result ℕ Refusal
 size_of_section b prefix =
-    ask sizeable b otherwise refused 37 then
-    given (section_len_of (encoding_of b.totals) b.totals prefix)
-
--- the answer: the size, or the number
-unfoldable pub sized_read : Answer ℕ → Sized
-sized_read (given n) = sized.Bytes n
-sized_read (refused n) = sized.Refused n
-
--- the number of the question that size fails, 0 if it fails none
-unfoldable pub sized_number : Sized → ℕ
-sized_number (sized.Bytes n) = 0
-sized_number (sized.Refused n) = n
+    ask sizeable b otherwise Err refusal.Builder then  -- 37
+    Ok (section_len_of (encoding_of b.totals) b.totals prefix)
 
 -- for proofs alone: `unfolding builder_defs` opens the definitions of this file
 unfoldable pub builder_defs : ℕ
-unfolding empty_builder anchor_next shared_with totals_after builder_after totals_small key_lies standing sizeable size_of_section sized_read sized_number
+unfolding empty_builder anchor_next shared_with totals_after builder_after totals_small key_lies standing sizeable size_of_section
 builder_defs = 0

@@ -1,17 +1,25 @@
 // The builder: what an add asks and keeps, and the size of the section that will be written.
 #![tactic(auto)]
 
-ghost use Rattle.std.specs.Prelude.{◌≡◌, true, ◌+◌, ◌-◌, ◌≤◌, min, max, ltb, length};
+ghost use Rattle.std.specs.Prelude.{◌≡◌, true, ◌+◌, ◌≤◌, ltb, leb, length};
 ghost use Rattle.num.specs.Choice.{when◌then◌else◌, either};
 ghost use Rattle.area.specs.Area.{area_versions};
-ghost use Rattle.builder.specs.Record.{shared_with, totals_after, builder_after, totals_small, key_lies, standing, sizeable, size_of_section, sized_read};
-ghost use Rattle.builder.specs.Internal.{RefusedWith, Countable};
+ghost use Rattle.builder.specs.Record.{totals_small, key_lies, standing, sizeable, size_of_section};
+ghost use Rattle.builder.specs.Add.{add_of, asked_of};
+ghost use Rattle.builder.specs.Lent.{offered};
 
+mod counter;
+mod entry;
+
+pub use counter::Counter;
 use encoding::{Encoding, Totals};
+pub use entry::{Entry, Tally};
+use num::LittleEndian;
+use refusal::{Refusal, ask};
 
 // What a builder keeps beside its area: the totals of its entries, how many bytes of the area are used, and the places of the last key and
 // of the latest anchor in it. All zero is the empty builder.
-#[derive(Clone, Copy)]
+#[derive(Clone, Copy, Debug, PartialEq, Eq)]
 pub struct Builder {
     pub totals: Totals,
     pub used: u64,
@@ -19,189 +27,125 @@ pub struct Builder {
     pub anchor: u64,
 }
 
-// The record after an add, or the number of the question that failed.
-#[derive(Clone, Copy)]
-pub enum Added {
-    Taken(Builder),
-    Refused(u64),
-}
-
-// How many bytes the section will have, or 37.
-#[derive(Clone, Copy)]
-pub enum Sized {
-    Bytes(u64),
-    Refused(u64),
-}
-
-// The bytes of a key's head in the area, and of a version.
-const HEAD: u64 = 8;
-
-const VERSION: u64 = 25;
-
-const MAX_KEYS: u64 = 1_048_576;
+// The most keys (question 33).
+pub const MAX_KEYS: u64 = 1_048_576;
 
 // No total is above this.
 const MOST: u64 = 0x4000_0000;
 
 // Question 37 of the totals.
+#[tactic(auto, unfolding(crate::specs::Record::totals_small, num::specs::Choice::choice_defs))]
 fn totals_small(b: Builder) -> bool
     ensures { result ≡ totals_small b }
 {
     let t = b.totals;
-    (t.keys <= MOST)
-        & ((t.versions <= MOST)
-            & ((t.suffix_bytes <= MOST)
-                & ((b.used <= MOST)
-                    & ((t.max_key_len <= MOST)
-                        & ((t.max_value_len <= MOST) & (t.max_versions <= MOST))))))
+    t.keys <= MOST
+        && t.versions <= MOST
+        && t.suffix_bytes <= MOST
+        && b.used <= MOST
+        && t.max_key_len <= MOST
+        && t.max_value_len <= MOST
+        && t.max_versions <= MOST
 }
 
 // Question 37 of size.
+#[tactic(auto, unfolding(crate::specs::Record::sizeable, num::specs::Choice::choice_defs))]
 fn sizeable(b: Builder) -> bool
     ensures { result ≡ sizeable b }
 {
     let t = b.totals;
-    totals_small(b) & (t.min_seq <= t.max_seq)
+    totals_small(b) && t.min_seq <= t.max_seq
 }
 
-// The size of the section that is written with a scan prefix.
-pub fn size(b: Builder, prefix: u64) -> Sized
-    ensures { result ≡ sized_read (size_of_section b prefix) }
+// The size of the section that is written with a scan prefix, or 37.
+#[tactic(auto, unfolding(crate::specs::Record::size_of_section, num::specs::Choice::choice_defs))]
+pub fn size(b: Builder, prefix: u64) -> Result<u64, Refusal>
+    ensures { result ≡ size_of_section b prefix }
 {
-    if !sizeable(b) {
-        return Sized::Refused(37);
-    }
+    ask(sizeable(b), Refusal::Builder)?;
     let t = b.totals;
     let e = Encoding::for_builder(t);
-    Sized::Bytes(e.section_len(t, prefix as usize) as u64)
+    Ok(e.section_len(t, prefix as usize) as u64)
 }
 
 // Question 37 of a key's place. Compared by differences: the sums may pass 2^64.
+#[tactic(auto, unfolding(crate::specs::Record::key_lies, area::specs::Area::area_key_len, num::specs::Choice::choice_defs))]
 fn key_lies(area: &[u8], b: Builder, head: u64) -> bool
     requires { b.used ≤ length area.now }
     ensures { result ≡ key_lies area.now b head }
 {
-    if b.used < HEAD {
+    let size = area::HEAD as u64;
+    if b.used < size {
         return false;
     }
-    let end = b.used - HEAD;
+    let end = b.used - size;
     if end < head {
         return false;
     }
-    num::u32_at(area, head as usize) as u64 <= end - head
+    u32::read(area, head as usize) as u64 <= end - head
 }
 
 // Question 37 of `add`.
+#[tactic(auto, unfolding(crate::specs::Record::standing, crate::specs::Record::key_lies, area::specs::Area::area_defs, num::specs::Choice::choice_defs))]
 fn stands(area: &[u8], b: Builder) -> bool
     ensures { result ≡ standing area.now b }
 {
-    if (area.len() as u64) < b.used {
+    if (area.len() as u64) < b.used || !totals_small(b) {
         return false;
     }
-    if !totals_small(b) {
-        return false;
-    }
-    let t = b.totals;
-    if t.keys == 0 {
-        return true;
-    }
-    if !key_lies(area, b, b.last_key) {
-        return false;
-    }
-    if !key_lies(area, b, b.anchor) {
-        return false;
-    }
-    num::u32_at(area, b.last_key as usize + 4) as u64 <= MOST
-}
-
-// One of two numbers, by a test.
-fn choose(test: bool, yes: u64, no: u64) -> u64
-    ensures { result ≡ (when test then yes else no) }
-{
-    if test { yes } else { no }
-}
-
-fn lesser(a: u64, b: u64) -> u64
-    ensures { result ≡ min a b }
-{
-    if a <= b { a } else { b }
-}
-
-fn greater(a: u64, b: u64) -> u64
-    ensures { result ≡ max a b }
-{
-    if a <= b { b } else { a }
+    b.totals.keys == 0
+        || (key_lies(area, b, b.last_key)
+            && key_lies(area, b, b.anchor)
+            && u32::read(area, b.last_key as usize + 4) as u64 <= MOST)
 }
 
 // How many bytes of the area an entry takes, if its key is this long.
-fn entry_len(key_len: u64, new_key: bool) -> u64
+#[tactic(auto, unfolding(num::specs::Choice::choice_defs))]
+fn entry_len(key_len: usize, new_key: bool) -> u64
     requires { key_len ≤ 1048576 }
     ensures { result ≡ 25 + (when new_key then 8 + key_len else 0) }
 {
-    VERSION + choose(new_key, HEAD + key_len, 0)
+    let version = area::VERSION as u64;
+    if new_key {
+        version + area::HEAD as u64 + key_len as u64
+    } else {
+        version
+    }
 }
 
-// The number of the first question that an add fails, 0 if it fails none.
-pub fn refusal(
-    area: &[u8],
-    b: Builder,
-    key_len: usize,
-    value_len: usize,
-    new_key: bool,
-    offset: u64,
-) -> u64
-    ensures { RefusedWith area.now b key_len value_len new_key offset result }
+// Question 33.
+#[tactic(auto, unfolding(num::specs::Choice::choice_defs))]
+pub fn few_keys(keys: u64, new_key: bool) -> bool
+    ensures { result ≡ leb (keys + (when new_key then 1 else 0)) 1048576 }
+{
+    if new_key {
+        keys < MAX_KEYS
+    } else {
+        keys <= MAX_KEYS
+    }
+}
+
+// The first question that an add fails.
+#[tactic(auto, unfolding(crate::specs::Add::add_defs, crate::specs::Offer::offer_defs, num::specs::Choice::choice_defs))]
+pub fn refusal(area: &[u8], b: Builder, offer: Entry<'_>) -> Result<(), Refusal>
+    ensures { result ≡ asked_of (add_of area.now b (offered offer.entry)) }
 {
     let t = b.totals;
-    if !sstable::mutation(key_len, value_len) {
-        return 30;
-    }
-    if !(new_key | (0 < t.keys)) {
-        return 31;
-    }
-    if offset < t.last_value_offset {
-        return 32;
-    }
-    if MAX_KEYS - choose(new_key, 1, 0) < t.keys {
-        return 33;
-    }
-    if !stands(area, b) {
-        return 37;
-    }
-    let end = b.used + entry_len(key_len as u64, new_key);
-    if !((end <= area.len() as u64) & (end <= MOST)) {
-        return 34;
-    }
-    0
-}
-
-// How many bytes a new key shares with the latest anchor.
-fn shared_with(area: &[u8], b: Builder, key: &[u8]) -> usize
-    requires { Countable area.now b }
-    ensures { result ≡ shared_with area.now b key.now }
-{
-    let t = b.totals;
-    if t.keys % Encoding::GROUP as u64 == 0 {
-        return 0;
-    }
-    let head = b.anchor as usize;
-    let from = head + HEAD as usize;
-    let end = from + num::u32_at(area, head) as usize;
-    sstable::common_prefix_len(&area[from..end], key)
-}
-
-// How many bytes an entry adds to the suffixes.
-fn suffix_len(area: &[u8], b: Builder, key: &[u8], new_key: bool) -> u64
-    requires { Countable area.now b }
-    ensures { result ≡ (when new_key then length key.now - shared_with area.now b key.now else 0) }
-{
-    if !new_key {
-        return 0;
-    }
-    (key.len() - shared_with(area, b, key)) as u64
+    let key_len = offer.key.len();
+    ask(
+        sstable::mutation(key_len, offer.value.len()),
+        Refusal::AddLimits,
+    )?;
+    ask(offer.new_key || 0 < t.keys, Refusal::FirstNotNew)?;
+    ask(t.last_value_offset <= offer.offset, Refusal::OffsetFalls)?;
+    ask(few_keys(t.keys, offer.new_key), Refusal::TooManyKeys)?;
+    ask(stands(area, b), Refusal::Builder)?;
+    let end = b.used + entry_len(key_len, offer.new_key);
+    ask(end <= area.len() as u64 && end <= MOST, Refusal::AreaRoom)
 }
 
 // The number of versions of an entry's key, with this one.
+#[tactic(auto, unfolding(crate::specs::Add::add_defs, num::specs::Choice::choice_defs))]
 pub fn versions_with(area: &[u8], b: Builder, new_key: bool) -> u64
     requires { (standing area.now b ≡ true) × (either new_key (ltb 0 b.totals.keys) ≡ true) }
     ensures { result ≡ (when new_key then 1 else area_versions area.now b.last_key + 1) }
@@ -209,59 +153,5 @@ pub fn versions_with(area: &[u8], b: Builder, new_key: bool) -> u64
     if new_key {
         return 1;
     }
-    num::u32_at(area, b.last_key as usize + 4) as u64 + 1
-}
-
-// The totals with an entry.
-fn totals_after(
-    area: &[u8],
-    b: Builder,
-    key: &[u8],
-    count: u64,
-    size: u64,
-    seq: u64,
-    offset: u64,
-    new_key: bool,
-) -> Totals
-    requires { Countable area.now b × (length key.now ≤ 1048576) }
-    ensures { result ≡ totals_after area.now b (record { key = key.now; count = count; size = size; seq = seq; offset = offset; new_key = new_key }) }
-{
-    let t = b.totals;
-    let longest = greater(t.max_key_len, key.len() as u64);
-    let least = lesser(t.min_seq, seq);
-    Totals {
-        keys: t.keys + choose(new_key, 1, 0),
-        versions: t.versions + 1,
-        suffix_bytes: t.suffix_bytes + suffix_len(area, b, key, new_key),
-        min_seq: choose(t.versions == 0, seq, least),
-        max_seq: greater(t.max_seq, seq),
-        max_key_len: choose(new_key, longest, t.max_key_len),
-        max_value_len: greater(t.max_value_len, size),
-        max_versions: greater(t.max_versions, count),
-        last_value_offset: offset,
-    }
-}
-
-// The record with an entry, which stands behind the used bytes.
-pub fn builder_after(
-    area: &[u8],
-    b: Builder,
-    key: &[u8],
-    count: u64,
-    size: u64,
-    seq: u64,
-    offset: u64,
-    new_key: bool,
-) -> Builder
-    requires { Countable area.now b × (length key.now ≤ 1048576) }
-    ensures { result ≡ builder_after area.now b (record { key = key.now; count = count; size = size; seq = seq; offset = offset; new_key = new_key }) }
-{
-    let t = b.totals;
-    let anchors = new_key & (t.keys % Encoding::GROUP as u64 == 0);
-    Builder {
-        totals: totals_after(area, b, key, count, size, seq, offset, new_key),
-        used: b.used + entry_len(key.len() as u64, new_key),
-        last_key: choose(new_key, b.used, b.last_key),
-        anchor: choose(anchors, b.used, b.anchor),
-    }
+    u32::read(area, b.last_key as usize + 4) as u64 + 1
 }

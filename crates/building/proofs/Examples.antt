@@ -7,7 +7,7 @@ use mathlib.Core.List.{List, [], ◌∷◌}
 use Prim.Native.Nat.{ℕ, zero, suc, ◌*◌, ◌<◌, ◌≤◌}
 use native.Mathlib.Omega.{arith}
 use lib.ListN.{length, replicate}
-use Rattle.num.specs.Answer.{given}
+use Rattle.std.specs.Prelude.{Ok}
 use Rattle.num.specs.Choice.{choice_defs}
 use Rattle.num.specs.Number.{le_at, le_bytes}
 use Rattle.num.specs.Order.{common_prefix_len, less_than, equal_bytes}
@@ -16,7 +16,7 @@ use Rattle.num.proofs.Xor.{bit_ind}
 use Rattle.crc32.specs.V42.{crc_defs}
 use Rattle.sstable.specs.declared.Kind.{Kind}
 use Rattle.sstable.specs.declared.Kind.TheVariants.{Put, Tombstone}
-use Rattle.sstable.specs.Kind.{kind_number, kind_of}
+use Rattle.sstable.specs.Kind.{kind_of}
 use Rattle.sstable.specs.Limits.{limit_defs}
 use Rattle.block.specs.Verify.{verify_defs}
 use Rattle.block.specs.EntryHeader.{entry_header_defs}
@@ -65,11 +65,11 @@ worked_adds =
     ∷ []
 
 worked_taken : (run_of worked_adds).taken ≡ worked_offers
-unfolding worked_adds offered worked_offers run_defs add_defs builder_defs area_defs offer_defs choice_defs encoding_defs crc_defs limit_defs le_at le_bytes common_prefix_len kind_number
+unfolding worked_adds offered worked_offers run_defs add_defs builder_defs area_defs offer_defs choice_defs encoding_defs crc_defs limit_defs le_at le_bytes common_prefix_len
 worked_taken = refl
 
-worked_written_lem : (write_run worked_adds (7 ∷ []) 0 2 20 135 ≡ given worked_section) × (write_run worked_adds [] 1 3 24 200 ≡ given worked_scan_section)
-unfolding write_run worked_adds offered run_defs worked_defs write_defs section_defs arena_written_defs joined fields_bytes read_back_defs add_defs builder_defs offer_defs area_defs construct_defs class_defs encoding_defs hash_defs limit_defs kind_number crc_defs common_prefix_len equal_bytes le_at le_bytes choice_defs
+worked_written_lem : (write_run worked_adds (7 ∷ []) 0 2 20 135 ≡ Ok worked_section) × (write_run worked_adds [] 1 3 24 200 ≡ Ok worked_scan_section)
+unfolding write_run worked_adds offered run_defs worked_defs write_defs section_defs arena_written_defs joined fields_bytes read_back_defs add_defs builder_defs offer_defs area_defs construct_defs class_defs encoding_defs hash_defs limit_defs crc_defs common_prefix_len equal_bytes le_at le_bytes choice_defs
 worked_written_lem = (refl, refl)
 
 -- ---- they are in order, and the worked data hold just them

@@ -7,13 +7,15 @@ use mathlib.Core.List.{List, Memᴰ, map}
 use Prim.Native.Nat.{ℕ, ◌^◌, ◌<◌, ◌≤◌}
 use native.Mathlib.Omega.{arith}
 use lib.ListN.{length, get_or}
-use Rattle.num.specs.Answer.{Answer, given, refused}
+use Rattle.std.specs.Prelude.{Result, Ok, Err}
+use Rattle.refusal.specs.declared.Refusal.{Refusal}
+use Rattle.refusal.specs.declared.Refusal.TheVariants as refusal
+use Rattle.refusal.proofs.Asked.{refused_ok, same_ok}
 use Rattle.num.proofs.Choice.{if_true}
 use Rattle.num.proofs.Lists.{member_index}
 use Rattle.encoding.specs.Encoding.{encoding_of, encoding_defs}
 use Rattle.construction.specs.Construct.{Constructed, construct_of}
 use Rattle.header.specs.declared.Opened.{Opened}
-use Rattle.header.specs.declared.HeaderRead.TheVariants.{Accepted}
 use Rattle.packed.specs.Packed.{packed_bytes}
 use Rattle.admission.specs.Blocks.{store_entries}
 use Rattle.locating.specs.Store.{LinkerStore, plain_opening, packed_opening, Version, version_in, store_versions, Holds}
@@ -44,25 +46,25 @@ use Rattle.building.proofs.Writing.{writes_exactly, some_groups}
 -- a section that was given, by what construction gave
 pub record Given (taken : List Offer) (prefix : ℕ) (s : List ℕ) : Type 0 where
   pub constructed : Constructed
-  pub construction : construct_of (keys_of taken) ≡ given constructed
+  pub construction : construct_of (keys_of taken) ≡ Ok constructed
   pub is : s ≡ section_of taken prefix constructed
   pub prefix_short : prefix ≤ 24
   pub some_entry : 0 < length taken
 
-given_by : (taken : List Offer) (prefix room64 room32 room : ℕ) (a : Answer (List ℕ)) → Outcome taken prefix room64 room32 room a
-    → (s : List ℕ) → a ≡ given s → Given taken prefix s
-given_by taken prefix room64 room32 room a (section p h e l c q) s z = record { constructed = c; construction = q; is = cc; prefix_short = p; some_entry = h }
-given_by taken prefix room64 room32 room a (prefix_long p) s z = absurd (let y : ◌≡◌ {A = ℕ} 0 1 = cc in omega arith)
-given_by taken prefix room64 room32 room a (no_entry p n) s z = absurd (let y : ◌≡◌ {A = ℕ} 0 1 = cc in omega arith)
-given_by taken prefix room64 room32 room a (scratch_short p h e) s z = absurd (let y : ◌≡◌ {A = ℕ} 0 1 = cc in omega arith)
-given_by taken prefix room64 room32 room a (output_short p h e l) s z = absurd (let y : ◌≡◌ {A = ℕ} 0 1 = cc in omega arith)
-given_by taken prefix room64 room32 room a (no_seed p h e l f) s z = absurd (let y : ◌≡◌ {A = ℕ} 0 1 = cc in omega arith)
+given_by : (taken : List Offer) (prefix room64 room32 room : ℕ) (a : Result (List ℕ) Refusal) → Outcome taken prefix room64 room32 room a
+    → (s : List ℕ) → a ≡ Ok s → Given taken prefix s
+given_by taken prefix room64 room32 room a (section p h e l c q) s z = record { constructed = c; construction = q; is = sym (same_ok z); prefix_short = p; some_entry = h }
+given_by taken prefix room64 room32 room a (prefix_long p) s z = refused_ok z
+given_by taken prefix room64 room32 room a (no_entry p n) s z = refused_ok z
+given_by taken prefix room64 room32 room a (scratch_short p h e) s z = refused_ok z
+given_by taken prefix room64 room32 room a (output_short p h e l) s z = refused_ok z
+given_by taken prefix room64 room32 room a (no_seed p h e l f) s z = refused_ok z
 
 pub built_by : (ls : List Lending) (prefix : ℕ) (s : List ℕ) → BuiltSection ls prefix s → Given (run_of ls).taken prefix s
 unfolding WritesExactly
 built_by ls prefix s b =
-    given_by (run_of ls).taken prefix b.room64 b.room32 b.room (given s)
-    ((writes_exactly ls b.rest prefix b.room64 b.room32 b.room (given s)).0 b.written) s refl
+    given_by (run_of ls).taken prefix b.room64 b.room32 b.room (Ok s)
+    ((writes_exactly ls b.rest prefix b.room64 b.room32 b.room (Ok s)).0 b.written) s refl
 
 -- size tells the length
 pub size_is_length : SizeIsLength
@@ -73,8 +75,8 @@ size_is_length ls prefix s b =
     let w = built_by ls prefix s b in
     let c = w.constructed in
     ap (λ (x : _). size_of_section x prefix) k.builder
-    ∙ if_true _ _ (refused 37) (size_passes gs k.sound)
-    ∙ ap given (sym (ap length w.is ∙ section_size (group_totals gs) gs (measured gs k.sound) (encoding_of (group_totals gs)) c.seed (group_totals gs).min_seq
+    ∙ if_true _ _ (Err refusal.Builder) (size_passes gs k.sound)
+    ∙ ap Ok (sym (ap length w.is ∙ section_size (group_totals gs) gs (measured gs k.sound) (encoding_of (group_totals gs)) c.seed (group_totals gs).min_seq
     (λ x. get_or c.placement.pilots x 0) (λ m. get_or c.placement.slots m 0) prefix))
 
 -- P8
@@ -86,7 +88,7 @@ same_sections ls ms prefix s t b d e =
     let same : v.constructed ≡ w.constructed = same_given (sym v.construction ∙ w.construction) in
     v.is ∙ ap (section_of (run_of ls).taken prefix) same ∙ sym w.is
   where
-    same_given : {c d : Constructed} → given c ≡ given d → c ≡ d
+    same_given : {c d : Constructed} → ◌≡◌ {A = Result Constructed Refusal} (Ok c) (Ok d) → c ≡ d
     same_given z = cc
 
 -- ---- P4
@@ -110,7 +112,7 @@ module _ (ls : List Lending) (prefix : ℕ) (s : List ℕ) (b : BuiltSection ls 
   few : length gs ≤ 2 ^ 20
   few = let f = sound.few in omega arith
 
-  seeds : construct_of (map (λ g. g.key) gs) ≡ given c
+  seeds : construct_of (map (λ g. g.key) gs) ≡ Ok c
   unfolding keys_of
   seeds = written_by.construction
 
@@ -186,7 +188,7 @@ module _ («data» blocks : List ℕ) (taken : List Offer) (h : HoldsJust «data
           back = λ v m k l. added-held v (s.back v m k l);
         }
 
-same_record : {o p : Opened} → Accepted o ≡ Accepted p → o ≡ p
+same_record : {o p : Opened} → ◌≡◌ {A = Result Opened Refusal} (Ok o) (Ok p) → o ≡ p
 same_record e = cc
 
 pub built_links : BuiltLinks

@@ -3,7 +3,7 @@
 use mathlib.Core.Path.{◌≡◌, refl, sym, ap, ap₂, ◌∙◌, subst}
 use mathlib.Core.List.{List, [], ◌∷◌, ◌++◌, append-nil}
 use mathlib.Core.Bool.{Bool, true, false}
-use mathlib.Core.Option.{Option, some, none}
+use Rattle.std.specs.Prelude.{Option, Some, None}
 use Prim.Native.Nat.{ℕ, zero, suc, ◌+◌, ◌*◌, ◌-◌, ◌<◌, ◌≤◌}
 use native.Mathlib.Nat.{not-suc-le-zero, zero-add}
 use native.Mathlib.Omega.{arith}
@@ -88,18 +88,18 @@ anchor_stands area gs hs small at =
 -- ---- a version
 
 kind_known : (k : Kind) (n : ℕ) → n ≡ kind_number k → one_of (1 ∷ 2 ∷ []) n ≡ true
-unfolding kind_number choice_defs
+unfolding choice_defs
 kind_known Put n e = ap (one_of (1 ∷ 2 ∷ [])) e
 kind_known Tombstone n e = ap (one_of (1 ∷ 2 ∷ [])) e
 
-yes : {A : Type 0} (t : Bool) (x : Option A) → t ≡ true → (when t then x else none) ≡ x
-yes t x e = if_true t x none e
+yes : {A : Type 0} (t : Bool) (x : Option A) → t ≡ true → (when t then x else None) ≡ x
+yes t x e = if_true t x None e
 
 module _ (area : List ℕ) (end : ℕ) where
   version_passes_lem : (r : Builder) (head place count : ℕ) (new : Bool) (key : List ℕ) (v : StoredVersion) → VersionSmall v → Stands area place (fields_bytes (area_fields v))
       → area_key area head ≡ key → area_key_len area head ≤ max_key_bytes → place + 25 ≤ end → r.totals.last_value_offset ≤ v.offset
       → r.totals.keys + (when new then 1 else 0) ≤ max_keys
-      → version_read area end r head place count new ≡ some (builder_after area r (counted_as key count v new))
+      → version_read area end r head place count new ≡ Some (builder_after area r (counted_as key count v new))
   unfolding version_read counted_at counted_as limit_defs
   version_passes_lem r head place count new key v small at k limit room offset few =
       let q = version_read_lem v small at in
@@ -110,7 +110,7 @@ module _ (area : List ℕ) (end : ℕ) where
       ∙ yes _ _ (true_both _ _ (le-leb (area_key_len area head) 1048576 limit) (le-leb (area_size area place) 16777216 z))
       ∙ yes _ _ (le-leb _ _ o)
       ∙ yes _ _ (le-leb _ _ few)
-      ∙ (λ i. some (builder_after area r (record { key = k i; count = count; size = q.size i; seq = q.seq i; offset = q.offset i; new_key = new })))
+      ∙ (λ i. Some (builder_after area r (record { key = k i; count = count; size = q.size i; seq = q.seq i; offset = q.offset i; new_key = new })))
 
   -- ---- further versions of the last key
 
@@ -120,13 +120,13 @@ module _ (area : List ℕ) (end : ℕ) where
       → length (area_of (gs ++ (g ∷ []))) + 25 ≤ end → last_of (λ v. v.offset) (versions_of (gs ++ (g ∷ []))) ≤ w.offset
       → length (gs ++ (g ∷ [])) ≤ max_keys
       → version_read area end (builder_of (gs ++ (g ∷ []))) (builder_of (gs ++ (g ∷ []))).last_key (builder_of (gs ++ (g ∷ []))).used (count + 1) false
-      ≡ some (builder_of (gs ++ (more_group g w ∷ [])))
+      ≡ Some (builder_of (gs ++ (more_group g w ∷ [])))
   unfolding builder_of group_totals when◌then◌else◌
   version_more gs g count w c k limit small at room offset few =
       ap (λ (p : ℕ). version_read area end (builder_of (gs ++ (g ∷ []))) p (length (area_of (gs ++ (g ∷ [])))) (count + 1) false) (place_last gs g)
       ∙ version_passes_lem (builder_of (gs ++ (g ∷ []))) (length (area_of gs)) (length (area_of (gs ++ (g ∷ [])))) (count + 1) false g.key w small at k limit room offset (omega arith)
-      ∙ ap (λ (m : ℕ). some (builder_after area (builder_of (gs ++ (g ∷ []))) (counted_as g.key (m + 1) w false))) c
-      ∙ ap some (builder_more area gs g g.key w)
+      ∙ ap (λ (m : ℕ). Some (builder_after area (builder_of (gs ++ (g ∷ []))) (counted_as g.key (m + 1) w false))) c
+      ∙ ap Some (builder_more area gs g g.key w)
 
   abbrev join_group : KeyGroup → List StoredVersion → KeyGroup
   join_group g ws = record { key = g.key; versions = g.versions ++ ws }
@@ -136,14 +136,14 @@ module _ (area : List ℕ) (end : ℕ) where
       → ((j : ℕ) → j < length ws → VersionSmall (get_or ws j no_stored)) → Stands area (length (area_of (gs ++ (g ∷ [])))) (area_of_versions ws)
       → length (area_of (gs ++ (g ∷ []))) + 25 * length ws ≤ end → Rising (last_of (λ v. v.offset) (versions_of (gs ++ (g ∷ [])))) ws
       → length (gs ++ (g ∷ [])) ≤ max_keys
-      → versions_read (length ws) area end (builder_of (gs ++ (g ∷ []))) count ≡ some (builder_of (gs ++ (join_group g ws ∷ [])))
+      → versions_read (length ws) area end (builder_of (gs ++ (g ∷ []))) count ≡ Some (builder_of (gs ++ (join_group g ws ∷ [])))
   unfolding versions_read more_group
   versions_pass gs g count [] c k limit small at room rises few =
-      λ i. some (builder_of (gs ++ (record { key = g.key; versions = sym (append-nil g.versions) i } ∷ [])))
+      λ i. Some (builder_of (gs ++ (record { key = g.key; versions = sym (append-nil g.versions) i } ∷ [])))
   versions_pass gs g count (w ∷ ws) c k limit small at room rises few =
-      ap (λ (o : Option Builder). elim o [ some q ↦ versions_read (length ws) area end q (count + 1) | none ↦ none ]) step
+      ap (λ (o : Option Builder). elim o [ Some q ↦ versions_read (length ws) area end q (count + 1) | None ↦ None ]) step
       ∙ versions_pass gs (more_group g w) (count + 1) ws (next-count) k limit (each_later w ws small) next_at next-room next-rises next-few
-      ∙ ap (λ (l : List StoredVersion). some (builder_of (gs ++ (record { key = g.key; versions = l } ∷ [])))) (append_snoc g.versions w ws)
+      ∙ ap (λ (l : List StoredVersion). Some (builder_of (gs ++ (record { key = g.key; versions = l } ∷ [])))) (append_snoc g.versions w ws)
     where
       n : length (area_of (gs ++ (more_group g w ∷ []))) ≡ length (area_of (gs ++ (g ∷ []))) + 25
       n = more_length gs g w
@@ -166,7 +166,7 @@ module _ (area : List ℕ) (end : ℕ) where
       next-few = let a = length_more gs g in let b = length_more gs (more_group g w) in omega arith
 
       step : version_read area end (builder_of (gs ++ (g ∷ []))) (builder_of (gs ++ (g ∷ []))).last_key (builder_of (gs ++ (g ∷ []))).used (count + 1) false
-          ≡ some (builder_of (gs ++ (more_group g w ∷ [])))
+          ≡ Some (builder_of (gs ++ (more_group g w ∷ [])))
       step =
           version_more gs g count w c k limit (small 0 (omega arith)) (first_stands w ws at) (omega arith)
           (rises_first (last_of (λ v. v.offset) (versions_of (gs ++ (g ∷ [])))) w ws rises) few
@@ -177,17 +177,17 @@ module _ (area : List ℕ) (end : ℕ) where
       → area_key area (length (area_of gs)) ≡ key → area_key_len area (length (area_of gs)) ≤ max_key_bytes
       → VersionSmall v → Stands area place (fields_bytes (area_fields v)) → place + 25 ≤ end → last_of (λ v. v.offset) (versions_of gs) ≤ v.offset
       → length gs + 1 ≤ max_keys
-      → version_read area end (builder_of gs) (length (area_of gs)) place 1 true ≡ some (builder_of (gs ++ (new_group key v ∷ [])))
+      → version_read area end (builder_of gs) (length (area_of gs)) place 1 true ≡ Some (builder_of (gs ++ (new_group key v ∷ [])))
   unfolding builder_of group_totals when◌then◌else◌
   version_new gs place key v anchor k limit small at room offset few =
       version_passes_lem (builder_of gs) (length (area_of gs)) place 1 true key v small at k limit room offset few
-      ∙ ap some (builder_new area gs key v anchor)
+      ∙ ap Some (builder_new area gs key v anchor)
 
   key_passes : (gs : List KeyGroup) (key : List ℕ) (v : StoredVersion) (ws : List StoredVersion) → AnchorStands area gs
       → GroupSmall (record { key = key; versions = v ∷ ws }) → Stands area (length (area_of gs)) (area_of_group (record { key = key; versions = v ∷ ws }))
       → length (area_of gs) + length (area_of_group (record { key = key; versions = v ∷ ws })) ≤ end
       → Rising (last_of (λ x. x.offset) (versions_of gs)) (v ∷ ws) → length gs + 1 ≤ max_keys
-      → key_read area end (builder_of gs) ≡ some (builder_of (gs ++ (record { key = key; versions = v ∷ ws } ∷ [])))
+      → key_read area end (builder_of gs) ≡ Some (builder_of (gs ++ (record { key = key; versions = v ∷ ws } ∷ [])))
   unfolding key_read builder_of new_group versions_read_for
   key_passes gs key v ws anchor small at room rises few =
       let g : KeyGroup = record { key = key; versions = v ∷ ws } in
@@ -215,14 +215,14 @@ module _ (area : List ℕ) (end : ℕ) where
       → GroupSmall (record { key = key; versions = vs }) → Stands area (length (area_of gs)) (area_of_group (record { key = key; versions = vs }))
       → length (area_of gs) + length (area_of_group (record { key = key; versions = vs })) ≤ end
       → Rising (last_of (λ x. x.offset) (versions_of gs)) vs → length gs + 1 ≤ max_keys
-      → key_read area end (builder_of gs) ≡ some (builder_of (gs ++ (record { key = key; versions = vs } ∷ [])))
+      → key_read area end (builder_of gs) ≡ Some (builder_of (gs ++ (record { key = key; versions = vs } ∷ [])))
   key_pass gs key [] anchor small at room rises few = absurd (not-suc-le-zero small.some)
   key_pass gs key (v ∷ ws) anchor small at room rises few = key_passes gs key v ws anchor small at room rises few
 
   -- ---- all keys
 
   module _ (all : List KeyGroup) (sound : Sound all) (at : Stands area 0 (area_of all)) (ends : end ≡ length (area_of all)) where
-    one_key : (gs : List KeyGroup) (h : KeyGroup) (hs : List KeyGroup) → gs ++ (h ∷ hs) ≡ all → key_read area end (builder_of gs) ≡ some (builder_of (gs ++ (h ∷ [])))
+    one_key : (gs : List KeyGroup) (h : KeyGroup) (hs : List KeyGroup) → gs ++ (h ∷ hs) ≡ all → key_read area end (builder_of gs) ≡ Some (builder_of (gs ++ (h ∷ [])))
     unfolding area_of versions_of last_of
     one_key gs h hs e =
         let whole = subst (λ (k : List KeyGroup). Stands area 0 (area_of k)) (sym e) at in
@@ -238,22 +238,22 @@ module _ (area : List ℕ) (end : ℕ) where
         (groups_stand_first h hs later) (omega arith) (rising_append _ h.versions (versions_of hs) r).0
         (let f = sound.few in let a = ap length e in omega arith)
 
-    keys-pass : (most : ℕ) (gs hs : List KeyGroup) → gs ++ hs ≡ all → length hs < most → keys_read most area end (builder_of gs) ≡ some (builder_of all)
+    keys-pass : (most : ℕ) (gs hs : List KeyGroup) → gs ++ hs ≡ all → length hs < most → keys_read most area end (builder_of gs) ≡ Some (builder_of all)
     unfolding keys_read builder_of area_of
     keys-pass zero gs hs e h = absurd (not-suc-le-zero h)
     keys-pass (suc most) gs [] e h =
         let same : gs ≡ all = sym (append-nil gs) ∙ e in
         let l : end ≤ length (area_of gs) = let a = ap (λ (k : List KeyGroup). length (area_of k)) same in omega arith in
-        ap (λ (b : Bool). elim b [ true ↦ some (builder_of gs) | false ↦ elim (key_read area end (builder_of gs)) [ some q ↦ keys_read most area end q | none ↦ none ] ])
+        ap (λ (b : Bool). elim b [ true ↦ Some (builder_of gs) | false ↦ elim (key_read area end (builder_of gs)) [ Some q ↦ keys_read most area end q | None ↦ None ] ])
         (le-leb end (length (area_of gs)) l)
-        ∙ ap (λ (k : List KeyGroup). some (builder_of k)) same
+        ∙ ap (λ (k : List KeyGroup). Some (builder_of k)) same
     keys-pass (suc most) gs (g ∷ hs) e h =
         let long = ap (λ (k : List KeyGroup). length (area_of k)) (sym e) ∙ ap length (area_append gs (g ∷ hs)) ∙ length-append (area_of gs) (area_of (g ∷ hs)) in
         let more = length-append (area_of_group g) (area_of hs) in
         let some_bytes = group_area_length g in
-        ap (λ (b : Bool). elim b [ true ↦ some (builder_of gs) | false ↦ elim (key_read area end (builder_of gs)) [ some q ↦ keys_read most area end q | none ↦ none ] ])
+        ap (λ (b : Bool). elim b [ true ↦ Some (builder_of gs) | false ↦ elim (key_read area end (builder_of gs)) [ Some q ↦ keys_read most area end q | None ↦ None ] ])
         (lt-leb end (length (area_of gs)) (omega arith))
-        ∙ ap (λ (o : Option Builder). elim o [ some q ↦ keys_read most area end q | none ↦ none ]) (one_key gs g hs e)
+        ∙ ap (λ (o : Option Builder). elim o [ Some q ↦ keys_read most area end q | None ↦ None ]) (one_key gs g hs e)
         ∙ keys-pass most (gs ++ (g ∷ [])) hs (append_snoc gs g hs ∙ e) (omega arith)
 
 -- a key takes bytes

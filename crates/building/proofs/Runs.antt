@@ -7,7 +7,9 @@ use Prim.Native.Nat.{ℕ}
 use native.Mathlib.Nat.{not-suc-le-zero}
 use native.Mathlib.Omega.{arith}
 use lib.ListN.{length, length-append}
-use Rattle.num.specs.Answer.{Answer, given, refused}
+use Rattle.std.specs.Prelude.{Result, Ok, Err}
+use Rattle.refusal.specs.declared.Refusal.{Refusal}
+use Rattle.refusal.specs.Refusal.{answer_number}
 use Rattle.builder.specs.declared.Builder.{Builder}
 use Rattle.builder.specs.Offer.{Offer}
 use Rattle.builder.specs.Add.{BuilderState, add_of}
@@ -59,7 +61,7 @@ module _ (r : Run) (k : Kept r) (l : Lending) where
   asked_of : add_of (r.used ++ l.rest) r.builder l.offer ≡ add_of (area_of (groups_of r.taken) ++ l.rest) (builder_of (groups_of r.taken)) l.offer
   asked_of = ap₂ (λ (u : List ℕ) (b : Builder). add_of (u ++ l.rest) b l.offer) k.used k.builder
 
-  first_new : (s : BuilderState) → add_of (r.used ++ l.rest) r.builder l.offer ≡ given s → length r.taken ≡ 0 → l.offer.new_key ≡ true
+  first_new : (s : BuilderState) → add_of (r.used ++ l.rest) r.builder l.offer ≡ Ok s → length r.taken ≡ 0 → l.offer.new_key ≡ true
   unfolding builder_of group_totals
   first_new s q n =
       let p = (accepted _ _ l.offer s (sym asked_of ∙ q)).0.passed in
@@ -70,7 +72,7 @@ module _ (r : Run) (k : Kept r) (l : Lending) where
       go true e f = e
       go false e f = absurd (f e)
 
-  kept_given : (s : BuilderState) → add_of (r.used ++ l.rest) r.builder l.offer ≡ given s → Kept (run_for r l.offer (given s))
+  kept_given : (s : BuilderState) → add_of (r.used ++ l.rest) r.builder l.offer ≡ Ok s → Kept (run_for r l.offer (Ok s))
   unfolding run_for
   kept_given s q =
       let t = steps l.offer l.seq_fits l.offset_fits l.rest (groups_of r.taken) k.sound s (sym asked_of ∙ q) in
@@ -86,16 +88,16 @@ module _ (r : Run) (k : Kept r) (l : Lending) where
   unfolding run_step run_for
   kept_step = go (add_of (r.used ++ l.rest) r.builder l.offer) refl
     where
-      go : (a : Answer BuilderState) → add_of (r.used ++ l.rest) r.builder l.offer ≡ a → Kept (run_for r l.offer a)
-      go (given s) q = kept_given s q
-      go (refused n) q = k
+      go : (a : Result BuilderState Refusal) → add_of (r.used ++ l.rest) r.builder l.offer ≡ a → Kept (run_for r l.offer a)
+      go (Ok s) q = kept_given s q
+      go (Err x) q = k
 
   -- no add is refused with 37
-  pub add_never_37 : add_of (r.used ++ l.rest) r.builder l.offer ≡ refused 37 → ⊥
+  pub add_never_37 : answer_number (add_of (r.used ++ l.rest) r.builder l.offer) ≡ 37 → ⊥
   add_never_37 q =
       let gs = groups_of r.taken in
       let n = length-append (area_of gs) l.rest in
-      never_37 (area_of gs ++ l.rest) (builder_of gs) l.offer (stands_passes gs k.sound (area_of gs ++ l.rest) (area_begins gs l.rest) (omega arith)) (sym asked_of ∙ q)
+      never_37 (area_of gs ++ l.rest) (builder_of gs) l.offer (stands_passes gs k.sound (area_of gs ++ l.rest) (area_begins gs l.rest) (omega arith)) (ap (λ (a : Result BuilderState Refusal). answer_number a) (sym asked_of) ∙ q)
 
 kept_from : (ls : List Lending) (r : Run) → Kept r → Kept (run_from r ls)
 unfolding run_from

@@ -6,7 +6,7 @@ use mathlib.Core.Bool.{true}
 use Prim.Native.Nat.{ℕ, ◌^◌, ◌<◌, ◌≤◌}
 use native.Mathlib.Omega.{arith}
 use lib.ListN.{length, get_or, length-map}
-use Rattle.num.specs.Answer.{given}
+use Rattle.std.specs.Prelude.{Ok}
 use Rattle.num.proofs.Choice.{false_true}
 use Rattle.num.proofs.Lists.{map_at}
 use Rattle.num.specs.Wrapping.{mul_mod}
@@ -55,7 +55,7 @@ module _ (gs : List KeyGroup) (seed : ℕ) where
 
 -- ---- what construction gives
 
-module _ (gs : List KeyGroup) (few : length gs ≤ 2 ^ 20) (c : Constructed) (e : construct_of (map (λ g. g.key) gs) ≡ given c) where
+module _ (gs : List KeyGroup) (few : length gs ≤ 2 ^ 20) (c : Constructed) (e : construct_of (map (λ g. g.key) gs) ≡ Ok c) where
   abbrev hs : List ℕ
   hs = hashes gs c.seed
 

@@ -8,7 +8,10 @@ use native.Mathlib.Omega.{arith}
 use lib.ListN.{length, get_or, take, get_or-append}
 use lib.Seq.{sets, get_or-append_seam}
 use Rattle.num.specs.Choice.{when◌then◌else◌}
-use Rattle.num.specs.Answer.{Answer, given, refused}
+use Rattle.std.specs.Prelude.{Result, Ok, Err}
+use Rattle.refusal.specs.declared.Refusal.{Refusal}
+use Rattle.refusal.specs.declared.Refusal.TheVariants as refusal
+use Rattle.refusal.specs.Refusal.{refusal_number, answer_number}
 use Rattle.num.specs.Number.{le_bytes}
 use Rattle.num.proofs.Choice.{if_true}
 use Rattle.sstable.specs.Limits.{limit_defs}
@@ -184,29 +187,27 @@ module _ (e : Offer) (seq_fits : e.seq < 2 ^ 64) (offset_fits : e.offset < 2 ^ 6
   steps_marked gs s false p = steps_last gs s p (follows_key false (length gs) p.passed.follows refl)
 
   -- an add that is taken
-  pub steps : (gs : List KeyGroup) → Sound gs → (s : BuilderState) → add_of (area_of gs ++ rest) (builder_of gs) e ≡ given s → Steps gs e s
+  pub steps : (gs : List KeyGroup) → Sound gs → (s : BuilderState) → add_of (area_of gs ++ rest) (builder_of gs) e ≡ Ok s → Steps gs e s
   steps gs sound s q =
       let p = accepted (area_of gs ++ rest) (builder_of gs) e s q in
       subst⁻¹ (Steps gs e) p.1 (steps_marked gs sound e.new_key p.0)
 
 -- ---- what is refused
 
-not_given : (n : ℕ) (s : BuilderState) → given s ≡ refused n → ⊥
-not_given n s e = let z : ◌≡◌ {A = ℕ} 0 1 = cc in omega arith
-
 -- a question of another number is passed
-other : (t : Bool) (k n : ℕ) (next : Answer BuilderState) → (k ≡ n → ⊥) → (when t then next else refused k) ≡ refused n → next ≡ refused n
-unfolding when◌then◌else◌
-other true k n next f e = e
-other false k n next f e = absurd (f (cc))
+other : (t : Bool) (k : Refusal) (next : Result BuilderState Refusal) → (refusal_number k ≡ 37 → ⊥) → answer_number (when t then next else Err k) ≡ 37
+    → answer_number next ≡ 37
+unfolding when◌then◌else◌ answer_number
+other true k next f e = e
+other false k next f e = absurd (f e)
 
 -- 37 is no number of an add whose record stands
-pub never_37 : (area : List ℕ) (b : Builder) (e : Offer) → standing area b ≡ true → add_of area b e ≡ refused 37 → ⊥
-unfolding add_of
+pub never_37 : (area : List ℕ) (b : Builder) (e : Offer) → standing area b ≡ true → answer_number (add_of area b e) ≡ 37 → ⊥
+unfolding add_of answer_number
 never_37 area b e s q =
-    let q₀ = other _ 30 37 _ (λ z. omega arith) q in
-    let q₁ = other _ 31 37 _ (λ z. omega arith) q₀ in
-    let q₂ = other _ 32 37 _ (λ z. omega arith) q₁ in
-    let q₃ = other _ 33 37 _ (λ z. omega arith) q₂ in
-    let q₄ = sym (if_true (standing area b) _ (refused 37) s) ∙ q₃ in
-    not_given 37 _ (other _ 34 37 _ (λ z. omega arith) q₄)
+    let q₀ = other _ _ _ (λ z. omega arith) q in
+    let q₁ = other _ _ _ (λ z. omega arith) q₀ in
+    let q₂ = other _ _ _ (λ z. omega arith) q₁ in
+    let q₃ = other _ _ _ (λ z. omega arith) q₂ in
+    let q₄ = ap (λ (a : Result BuilderState Refusal). answer_number a) (sym (if_true (standing area b) _ (Err refusal.Builder) s)) ∙ q₃ in
+    let z = other _ _ _ (λ z. omega arith) q₄ in omega arith

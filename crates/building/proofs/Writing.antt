@@ -9,7 +9,9 @@ use lib.Dec.{leb, ltb}
 use lib.ListN.{length, get_or, length-append, length-map}
 use borrow.Author.Tests.{leb-true, leb-false, ltb-true, ltb-false, le-leb, lt-leb, lt-ltb, le-ltb}
 use Rattle.num.specs.Choice.{when◌then◌else◌}
-use Rattle.num.specs.Answer.{Answer, given, refused}
+use Rattle.std.specs.Prelude.{Result, Ok, Err}
+use Rattle.refusal.specs.declared.Refusal.{Refusal}
+use Rattle.refusal.specs.declared.Refusal.TheVariants as refusal
 use Rattle.num.proofs.Choice.{if_true, if_false, if_case, both_true, true_both, never_true, false_true}
 use Rattle.encoding.specs.Encoding.{encoding_of, section_len_of}
 use Rattle.construction.specs.Construct.{Constructed, construct_of}
@@ -63,23 +65,23 @@ module _ (taken : List Offer) (prefix room64 room32 room : ℕ) where
   gs = groups_of taken
 
   -- the section, by what construction gives
-  answer_for : Answer Constructed → Answer (List ℕ)
-  answer_for (given c) = given (section_of taken prefix c)
-  answer_for (refused n) = refused n
+  answer_for : Result Constructed Refusal → Result (List ℕ) Refusal
+  answer_for (Ok c) = Ok (section_of taken prefix c)
+  answer_for (Err n) = Err refusal.NoSeed
 
-  abbrev chain : Answer (List ℕ)
+  abbrev chain : Result (List ℕ) Refusal
   chain =
       when leb prefix 24 then
       (when ltb 0 (length gs) then
       (when scratch_enough (length gs) room64 room32 then
-      (when leb (size_for taken prefix) room then answer_for (construct_of (keys_of taken)) else refused 39) else refused 38) else refused 36) else refused 35
+      (when leb (size_for taken prefix) room then answer_for (construct_of (keys_of taken)) else Err refusal.SectionRoom) else Err refusal.BuildScratch) else Err refusal.NoKey) else Err refusal.PrefixLong
 
-  section_for_lem : (area : List ℕ) → groups_in area (length gs) ≡ gs → (a : Answer Constructed) → section_for area (builder_of gs) prefix a ≡ answer_for a
+  section_for_lem : (area : List ℕ) → groups_in area (length gs) ≡ gs → (a : Result Constructed Refusal) → section_for area (builder_of gs) prefix a ≡ answer_for a
   unfolding section_for answer_for section_of builder_of group_totals
-  section_for_lem area e (given c) =
+  section_for_lem area e (Ok c) =
       ap (λ (l : List KeyGroup).
-      given (section_bytes (encoding_of (group_totals gs)) c.seed (group_totals gs).min_seq l (λ x. get_or c.placement.pilots x 0) (λ m. get_or c.placement.slots m 0) prefix)) e
-  section_for_lem area e (refused n) = refl
+      Ok (section_bytes (encoding_of (group_totals gs)) c.seed (group_totals gs).min_seq l (λ x. get_or c.placement.pilots x 0) (λ m. get_or c.placement.slots m 0) prefix)) e
+  section_for_lem area e (Err n) = refl
 
   chain_of : Sound gs → (rest : List ℕ) → write_of (area_of gs ++ rest) (builder_of gs) prefix room64 room32 room ≡ chain
   unfolding write_of builder_of group_totals size_for keys_of
@@ -89,15 +91,15 @@ module _ (taken : List Offer) (prefix room64 room32 room : ℕ) where
       let q = true_both (sizeable (builder_of gs)) (reads_back_of area (builder_of gs)) (size_passes gs sound) r in
       let e = section_for_lem area (groups_in_lem gs sound.small (area_begins gs rest)) (construct_of (keys_in_of area (length gs)))
       ∙ ap (λ (l : List (List ℕ)). answer_for (construct_of l)) (keys_in gs sound.small (area_begins gs rest)) in
-      ap₂ (λ (t : Bool) (a : Answer (List ℕ)).
+      ap₂ (λ (t : Bool) (a : Result (List ℕ) Refusal).
       when leb prefix 24 then
       (when ltb 0 (length gs) then
       (when t then
       (when scratch_enough (length gs) room64 room32 then
-      (when leb (section_len_of (encoding_of (group_totals gs)) (group_totals gs) prefix) room then a else refused 39) else refused 38) else refused 37) else refused 36) else refused 35) q e
-      ∙ ap (λ (b : Answer (List ℕ)). when leb prefix 24 then (when ltb 0 (length gs) then b else refused 36) else refused 35)
+      (when leb (section_len_of (encoding_of (group_totals gs)) (group_totals gs) prefix) room then a else Err refusal.SectionRoom) else Err refusal.BuildScratch) else Err refusal.Builder) else Err refusal.NoKey) else Err refusal.PrefixLong) q e
+      ∙ ap (λ (b : Result (List ℕ) Refusal). when leb prefix 24 then (when ltb 0 (length gs) then b else Err refusal.NoKey) else Err refusal.PrefixLong)
       (if_true true (when scratch_enough (length gs) room64 room32 then
-      (when leb (section_len_of (encoding_of (group_totals gs)) (group_totals gs) prefix) room then answer_for (construct_of (keys_of taken)) else refused 39) else refused 38) (refused 37) refl)
+      (when leb (section_len_of (encoding_of (group_totals gs)) (group_totals gs) prefix) room then answer_for (construct_of (keys_of taken)) else Err refusal.SectionRoom) else Err refusal.BuildScratch) (Err refusal.Builder) refl)
 
   -- ---- tests and facts
 
@@ -127,23 +129,23 @@ module _ (taken : List Offer) (prefix room64 room32 room : ℕ) where
 
   -- ---- from the answer
 
-  abbrev Out : Answer (List ℕ) → Type 0
+  abbrev Out : Result (List ℕ) Refusal → Type 0
   Out = Outcome taken prefix room64 room32 room
 
   built : prefix ≤ 24 → 0 < length taken → ScratchEnough (length (keys_of taken)) room64 room32 → size_for taken prefix ≤ room
-      → (a : Answer Constructed) → construct_of (keys_of taken) ≡ a → Out (answer_for a)
+      → (a : Result Constructed Refusal) → construct_of (keys_of taken) ≡ a → Out (answer_for a)
   unfolding answer_for SeedDecided
-  built p h s l (given c) e = section p h s l c e
-  built p h s l (refused n) e =
+  built p h s l (Ok c) e = section p h s l c e
+  built p h s l (Err n) e =
       let q = (seed_decided (keys_of taken)).never n e in
-      subst⁻¹ (λ (k : ℕ). Out (refused k)) q (no_seed p h s l ((seed_decided (keys_of taken)).refuses.0 (e ∙ ap refused q)))
+      no_seed p h s l ((seed_decided (keys_of taken)).refuses.0 (e ∙ ap Err q))
 
   outcome : Out chain
   outcome =
-      if_case Out (leb prefix 24) _ (refused 35)
-      (λ p. if_case Out (ltb 0 (length gs)) _ (refused 36)
-      (λ h. if_case Out (scratch_enough (length gs) room64 room32) _ (refused 38)
-      (λ s. if_case Out (leb (size_for taken prefix) room) _ (refused 39)
+      if_case Out (leb prefix 24) _ (Err refusal.PrefixLong)
+      (λ p. if_case Out (ltb 0 (length gs)) _ (Err refusal.NoKey)
+      (λ h. if_case Out (scratch_enough (length gs) room64 room32) _ (Err refusal.BuildScratch)
+      (λ s. if_case Out (leb (size_for taken prefix) room) _ (Err refusal.SectionRoom)
       (λ l. built (leb-true prefix 24 p) (some_taken taken (ltb-true 0 (length gs) h)) (true_enough s) (leb-true (size_for taken prefix) room l) (construct_of (keys_of taken)) refl)
       (λ l. output_short (leb-true prefix 24 p) (some_taken taken (ltb-true 0 (length gs) h)) (true_enough s) (leb-false (size_for taken prefix) room l)))
       (λ s. scratch_short (leb-true prefix 24 p) (some_taken taken (ltb-true 0 (length gs) h)) (λ x. false_true (sym s ∙ enough_true x))))
@@ -162,26 +164,26 @@ module _ (taken : List Offer) (prefix room64 room32 room : ℕ) where
   to_40 : prefix ≤ 24 → 0 < length taken → ScratchEnough (length (keys_of taken)) room64 room32 → size_for taken prefix ≤ room
       → chain ≡ answer_for (construct_of (keys_of taken))
   to_40 p h s l =
-      if_true (leb prefix 24) _ (refused 35) (le-leb prefix 24 p)
-      ∙ if_true (ltb 0 (length gs)) _ (refused 36) (some_true h)
-      ∙ if_true (scratch_enough (length gs) room64 room32) _ (refused 38) (enough_true s)
-      ∙ if_true (leb (size_for taken prefix) room) _ (refused 39) (le-leb (size_for taken prefix) room l)
+      if_true (leb prefix 24) _ (Err refusal.PrefixLong) (le-leb prefix 24 p)
+      ∙ if_true (ltb 0 (length gs)) _ (Err refusal.NoKey) (some_true h)
+      ∙ if_true (scratch_enough (length gs) room64 room32) _ (Err refusal.BuildScratch) (enough_true s)
+      ∙ if_true (leb (size_for taken prefix) room) _ (Err refusal.SectionRoom) (le-leb (size_for taken prefix) room l)
 
-  answered : (a : Answer (List ℕ)) → Out a → chain ≡ a
+  answered : (a : Result (List ℕ) Refusal) → Out a → chain ≡ a
   unfolding answer_for SeedDecided
-  answered a (prefix_long p) = if_false (leb prefix 24) _ (refused 35) (lt-leb prefix 24 p)
+  answered a (prefix_long p) = if_false (leb prefix 24) _ (Err refusal.PrefixLong) (lt-leb prefix 24 p)
   answered a (no_entry p n) =
-      if_true (leb prefix 24) _ (refused 35) (le-leb prefix 24 p)
-      ∙ if_false (ltb 0 (length gs)) _ (refused 36) (le-ltb 0 (length gs) (let z = no_groups taken n in omega arith))
+      if_true (leb prefix 24) _ (Err refusal.PrefixLong) (le-leb prefix 24 p)
+      ∙ if_false (ltb 0 (length gs)) _ (Err refusal.NoKey) (le-ltb 0 (length gs) (let z = no_groups taken n in omega arith))
   answered a (scratch_short p h s) =
-      if_true (leb prefix 24) _ (refused 35) (le-leb prefix 24 p)
-      ∙ if_true (ltb 0 (length gs)) _ (refused 36) (some_true h)
-      ∙ if_false (scratch_enough (length gs) room64 room32) _ (refused 38) (never_true _ (λ q. s (true_enough q)))
+      if_true (leb prefix 24) _ (Err refusal.PrefixLong) (le-leb prefix 24 p)
+      ∙ if_true (ltb 0 (length gs)) _ (Err refusal.NoKey) (some_true h)
+      ∙ if_false (scratch_enough (length gs) room64 room32) _ (Err refusal.BuildScratch) (never_true _ (λ q. s (true_enough q)))
   answered a (output_short p h s l) =
-      if_true (leb prefix 24) _ (refused 35) (le-leb prefix 24 p)
-      ∙ if_true (ltb 0 (length gs)) _ (refused 36) (some_true h)
-      ∙ if_true (scratch_enough (length gs) room64 room32) _ (refused 38) (enough_true s)
-      ∙ if_false (leb (size_for taken prefix) room) _ (refused 39) (lt-leb (size_for taken prefix) room l)
+      if_true (leb prefix 24) _ (Err refusal.PrefixLong) (le-leb prefix 24 p)
+      ∙ if_true (ltb 0 (length gs)) _ (Err refusal.NoKey) (some_true h)
+      ∙ if_true (scratch_enough (length gs) room64 room32) _ (Err refusal.BuildScratch) (enough_true s)
+      ∙ if_false (leb (size_for taken prefix) room) _ (Err refusal.SectionRoom) (lt-leb (size_for taken prefix) room l)
   answered a (no_seed p h s l f) = to_40 p h s l ∙ ap answer_for ((seed_decided (keys_of taken)).refuses.1 f)
   answered a (section p h s l c e) = to_40 p h s l ∙ ap answer_for e
 

@@ -1,6 +1,7 @@
 -- What writing gives from a list of adds (promises P4, P6 and P8).
-use Rattle.std.specs.Prelude.{◌≡◌, ◌↔◌, List, ◌++◌, ℕ, ◌+◌, ◌*◌, ◌<◌, ◌≤◌, length, get_or}
-use Rattle.num.specs.Answer.{Answer, given, refused}
+use Rattle.std.specs.Prelude.{◌≡◌, ◌↔◌, List, ◌++◌, ℕ, ◌+◌, ◌*◌, ◌<◌, ◌≤◌, length, get_or, Result, Ok, Err}
+use Rattle.refusal.specs.declared.Refusal.{Refusal}
+use Rattle.refusal.specs.declared.Refusal.TheVariants as refusal
 use Rattle.encoding.specs.Encoding.{encoding_of, section_len_of}
 use Rattle.header.specs.declared.Opened.{Opened}
 use Rattle.header.specs.Header.{packed_record}
@@ -40,7 +41,7 @@ section_record taken prefix c =
 -- ---- what writing answers
 
 -- writing behind a list of adds: it is lent the used area as left, followed by any rest, and scratches and an output of these lengths
-unfoldable pub write_run : List Lending → List ℕ → ℕ → ℕ → ℕ → ℕ → Answer (List ℕ)
+unfoldable pub write_run : List Lending → List ℕ → ℕ → ℕ → ℕ → ℕ → Result (List ℕ) Refusal
 write_run ls rest prefix room64 room32 room = write_of ((run_of ls).used ++ rest) (run_of ls).builder prefix room64 room32 room
 
 -- scratch of n 64-bit and 6n + 8 32-bit numbers
@@ -49,22 +50,22 @@ pub record ScratchEnough (n room64 room32 : ℕ) : Type 0 where
   pub numbers32 : 6 * n + 8 ≤ room32
 
 -- when which answer is given; 37 is none of them
-pub data Outcome (taken : List Offer) (prefix room64 room32 room : ℕ) : Answer (List ℕ) → Type 0 where
-  prefix_long : 24 < prefix → Outcome taken prefix room64 room32 room (refused 35)
-  no_entry : prefix ≤ 24 → length taken ≡ 0 → Outcome taken prefix room64 room32 room (refused 36)
-  scratch_short : prefix ≤ 24 → 0 < length taken → (ScratchEnough (length (keys_of taken)) room64 room32 → ⊥) → Outcome taken prefix room64 room32 room (refused 38)
+pub data Outcome (taken : List Offer) (prefix room64 room32 room : ℕ) : Result (List ℕ) Refusal → Type 0 where
+  prefix_long : 24 < prefix → Outcome taken prefix room64 room32 room (Err refusal.PrefixLong)
+  no_entry : prefix ≤ 24 → length taken ≡ 0 → Outcome taken prefix room64 room32 room (Err refusal.NoKey)
+  scratch_short : prefix ≤ 24 → 0 < length taken → (ScratchEnough (length (keys_of taken)) room64 room32 → ⊥) → Outcome taken prefix room64 room32 room (Err refusal.BuildScratch)
   output_short : prefix ≤ 24 → 0 < length taken → ScratchEnough (length (keys_of taken)) room64 room32 → room < size_for taken prefix
-      → Outcome taken prefix room64 room32 room (refused 39)
+      → Outcome taken prefix room64 room32 room (Err refusal.SectionRoom)
   -- none of the eight seeds serves
   no_seed : prefix ≤ 24 → 0 < length taken → ScratchEnough (length (keys_of taken)) room64 room32 → size_for taken prefix ≤ room
-      → ((k : ℕ) → 1 ≤ k → k ≤ 8 → Fails (keys_of taken) k) → Outcome taken prefix room64 room32 room (refused 40)
+      → ((k : ℕ) → 1 ≤ k → k ≤ 8 → Fails (keys_of taken) k) → Outcome taken prefix room64 room32 room (Err refusal.NoSeed)
   section : prefix ≤ 24 → 0 < length taken → ScratchEnough (length (keys_of taken)) room64 room32 → size_for taken prefix ≤ room
-      → (c : Constructed) → construct_of (keys_of taken) ≡ given c → Outcome taken prefix room64 room32 room (given (section_of taken prefix c))
+      → (c : Constructed) → construct_of (keys_of taken) ≡ Ok c → Outcome taken prefix room64 room32 room (Ok (section_of taken prefix c))
 
 -- each answer is given exactly then
 unfoldable pub WritesExactly : Type 0
 WritesExactly =
-    (ls : List Lending) (rest : List ℕ) (prefix room64 room32 room : ℕ) (a : Answer (List ℕ))
+    (ls : List Lending) (rest : List ℕ) (prefix room64 room32 room : ℕ) (a : Result (List ℕ) Refusal)
     → (write_run ls rest prefix room64 room32 room ≡ a) ↔ Outcome (run_of ls).taken prefix room64 room32 room a
 
 -- ---- sections that were built
@@ -75,11 +76,11 @@ pub record BuiltSection (ls : List Lending) (prefix : ℕ) (s : List ℕ) : Type
   pub room64 : ℕ
   pub room32 : ℕ
   pub room : ℕ
-  pub written : write_run ls rest prefix room64 room32 room ≡ given s
+  pub written : write_run ls rest prefix room64 room32 room ≡ Ok s
 
 -- size tells the length of what is written
 unfoldable pub SizeIsLength : Type 0
-SizeIsLength = (ls : List Lending) (prefix : ℕ) (s : List ℕ) → BuiltSection ls prefix s → size_of_section (run_of ls).builder prefix ≡ given (length s)
+SizeIsLength = (ls : List Lending) (prefix : ℕ) (s : List ℕ) → BuiltSection ls prefix s → size_of_section (run_of ls).builder prefix ≡ Ok (length s)
 
 -- promise P8: what is written is a function of the offers taken and the prefix
 unfoldable pub SameSections : Type 0
@@ -96,7 +97,7 @@ unfoldable pub BuildsAndOpens : Type 0
 BuildsAndOpens =
     (ls : List Lending) (prefix : ℕ) (s : List ℕ) → BuiltSection ls prefix s → InOrder (run_of ls).taken
     → («data» blocks : List ℕ) (scratch : ℕ) → Beside (run_of ls).taken «data» blocks scratch
-    → (c : Constructed) × (construct_of (keys_of (run_of ls).taken) ≡ given c)
+    → (c : Constructed) × (construct_of (keys_of (run_of ls).taken) ≡ Ok c)
     × OpensAs s «data» blocks scratch (section_record (run_of ls).taken prefix c) × PacksAs s «data» blocks scratch (section_record (run_of ls).taken prefix c)
 
 -- the stores that a section opens as, plain and packed

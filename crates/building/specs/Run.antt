@@ -1,7 +1,7 @@
 -- The adds of a builder, one list from the empty record on (document 01, "Building": "each of them, and writing, gets the used area as left
 -- and the record of the last one taken, and nobody else writes them").
-use Rattle.std.specs.Prelude.{ℕ, ◌^◌, ◌<◌, List, [], ◌∷◌, ◌++◌, take}
-use Rattle.num.specs.Answer.{Answer, given, refused}
+use Rattle.std.specs.Prelude.{ℕ, ◌^◌, ◌<◌, List, [], ◌∷◌, ◌++◌, take, Result, Ok, Err}
+use Rattle.refusal.specs.declared.Refusal.{Refusal}
 use Rattle.builder.specs.declared.Builder.{Builder}
 use Rattle.builder.specs.Offer.{Offer}
 use Rattle.builder.specs.Record.{empty_builder}
@@ -25,9 +25,9 @@ unfoldable pub empty_run : Run
 empty_run = record { builder = empty_builder; used = []; taken = [] }
 
 -- behind an add, by its answer: a refused offer leaves all three
-unfoldable pub run_for : Run → Offer → Answer BuilderState → Run
-run_for r e (refused n) = r
-run_for r e (given s) = record { builder = s.builder; used = take s.builder.used s.area; taken = r.taken ++ (e ∷ []) }
+unfoldable pub run_for : Run → Offer → Result BuilderState Refusal → Run
+run_for r e (Err q) = r
+run_for r e (Ok s) = record { builder = s.builder; used = take s.builder.used s.area; taken = r.taken ++ (e ∷ []) }
 
 unfoldable pub run_step : Run → Lending → Run
 run_step r l = run_for r l.offer (add_of (r.used ++ l.rest) r.builder l.offer)

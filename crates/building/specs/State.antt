@@ -1,6 +1,6 @@
 -- The state of a builder is a function of the offers that it has taken, and question 37 never occurs for it.
 use Rattle.std.specs.Prelude.{◌≡◌, true, List, ◌++◌, map, ℕ}
-use Rattle.num.specs.Answer.{refused}
+use Rattle.refusal.specs.Refusal.{answer_number}
 use Rattle.area.specs.Area.{keys_in_of}
 use Rattle.builder.specs.Offer.{Offer}
 use Rattle.builder.specs.Record.{sizeable}
@@ -19,7 +19,7 @@ pub record StateOf (r : Run) : Type 0 where
   pub record_is : r.builder ≡ builder_of (groups_of r.taken)
   pub area_is : r.used ≡ area_of (groups_of r.taken)
   -- no further add is refused with 37, whatever area it is lent
-  pub adds : (l : Lending) → add_of (r.used ++ l.rest) r.builder l.offer ≡ refused 37 → ⊥
+  pub adds : (l : Lending) → answer_number (add_of (r.used ++ l.rest) r.builder l.offer) ≡ 37 → ⊥
   -- nor is size or writing: the area reads back
   pub sizes : sizeable r.builder ≡ true
   pub reads_back : (rest : List ℕ) → reads_back_of (r.used ++ rest) r.builder ≡ true

@@ -4,17 +4,17 @@
 ghost use Rattle.std.specs.Prelude.{◌≡◌, true, false, eqb, length};
 ghost use Rattle.num.specs.Choice.{when◌then◌else◌};
 ghost use Rattle.sstable.specs.declared.Kind.TheVariants.{Put, Tombstone};
-ghost use Rattle.builder.specs.Record.{size_of_section, sized_read, sized_number};
-ghost use Rattle.builder.specs.Add.{add_of, added_read, added_number, added_area};
+ghost use Rattle.refusal.specs.Refusal.{answer_number};
+ghost use Rattle.builder.specs.Record.{size_of_section};
+ghost use Rattle.builder.specs.Add.{add_of, added_area};
 ghost use Rattle.writer.specs.Write.{write_of, section_written};
-ghost use Rattle.writing.specs.Wrote.{wrote_read, wrote_number};
 ghost use Rattle.numbers.specs.BuilderNumbers.{builder_in};
 ghost use Rattle.builds.specs.Built.{offer_from, builder_written, size_written, section_len_written};
 
-use builder::{Added, Sized};
+use builder::Entry;
 use sstable::Kind;
-use writing::Wrote;
 
+// Kinds and marks are numbers here since the interface for C has no enums.
 #[tactic(auto, unfolding(num::specs::Choice::choice_defs))]
 fn kind_from(tombstone: u64) -> Kind
     ensures { result ≡ (when eqb tombstone 0 then Put else Tombstone) }
@@ -26,14 +26,9 @@ fn kind_from(tombstone: u64) -> Kind
     }
 }
 
-fn marked_new(new_key: u64) -> bool
-    ensures { result ≡ (when eqb new_key 0 then false else true) }
-{
-    new_key != 0
-}
-
-// Adds an entry to the area and to the builder's record beside it: a Put or a tombstone, of the last key or of a new one, whose value
-// stands at an offset of the data. 0, or the number of the first question that is answered with no, which leaves both as they were.
+// Adds an entry to the area and to the builder's record beside it: a Put or a tombstone, of the last key or of a new
+// one, whose value stands at an offset of the data. 0, or the number of the first question that is answered with no,
+// which leaves both as they were.
 pub fn add(
     area: &mut [u8],
     builder: &mut [u64; 16],
@@ -44,41 +39,46 @@ pub fn add(
     new_key: u64,
     offset: u64,
 ) -> u64
-    ensures { (result ≡ added_number (added_read (add_of area.old (builder_in builder.old) (offer_from tombstone key.now value.now sequence new_key offset))))
+    ensures { (result ≡ answer_number (add_of area.old (builder_in builder.old) (offer_from tombstone key.now value.now sequence new_key offset)))
         × (area.new ≡ added_area (add_of area.old (builder_in builder.old) (offer_from tombstone key.now value.now sequence new_key offset)) area.old)
         × (builder.new ≡ builder_written (add_of area.old (builder_in builder.old) (offer_from tombstone key.now value.now sequence new_key offset)) builder.old) }
 {
     let b = numbers::read_builder(builder);
-    let kind = kind_from(tombstone);
-    let new = marked_new(new_key);
-    let added = adding::add(area, b, kind, key, value, sequence, new, offset);
-    match added {
-        Added::Taken(after) => {
+    let offer = Entry {
+        kind: kind_from(tombstone),
+        key,
+        value,
+        seq: sequence,
+        new_key: new_key != 0,
+        offset,
+    };
+    match adding::add(area, b, offer) {
+        Ok(after) => {
             numbers::write_builder(after, builder);
             0
         }
-        Added::Refused(n) => n,
+        Err(refusal) => refusal.number(),
     }
 }
 
-// Tells how many bytes the section of a builder will have with a scan prefix: 0, or 37, which leaves the size as it was.
+// Tells how many bytes the section of a builder will have with a scan prefix: 0, or 37, which leaves the size as it
+// was.
 pub fn size(builder: &[u64; 16], prefix: u64, size: &mut u64) -> u64
-    ensures { (result ≡ sized_number (sized_read (size_of_section (builder_in builder.now) prefix)))
+    ensures { (result ≡ answer_number (size_of_section (builder_in builder.now) prefix))
         × (size.new ≡ size_written (size_of_section (builder_in builder.now) prefix) size.old) }
 {
     let b = numbers::read_builder(builder);
-    let sized = builder::size(b, prefix);
-    match sized {
-        Sized::Bytes(n) => {
+    match builder::size(b, prefix) {
+        Ok(n) => {
             *size = n;
             0
         }
-        Sized::Refused(n) => n,
+        Err(refusal) => refusal.number(),
     }
 }
 
-// Writes the section of a builder with a scan prefix, and how many bytes it has: 0, or the number of the first question that is
-// answered with no, which leaves both as they were. The scratches keep their lengths.
+// Writes the section of a builder with a scan prefix, and how many bytes it has: 0, or the number of the first question
+// that is answered with no, which leaves both as they were. The scratches keep their lengths.
 pub fn write(
     area: &[u8],
     builder: &[u64; 16],
@@ -88,19 +88,18 @@ pub fn write(
     output: &mut [u8],
     len: &mut u64,
 ) -> u64
-    ensures { (result ≡ wrote_number (wrote_read (write_of area.now (builder_in builder.now) prefix (length scratch64.old) (length scratch32.old) (length output.old))))
+    ensures { (result ≡ answer_number (write_of area.now (builder_in builder.now) prefix (length scratch64.old) (length scratch32.old) (length output.old)))
         × (output.new ≡ section_written (write_of area.now (builder_in builder.now) prefix (length scratch64.old) (length scratch32.old) (length output.old)) output.old)
         × (len.new ≡ section_len_written (write_of area.now (builder_in builder.now) prefix (length scratch64.old) (length scratch32.old) (length output.old)) len.old)
         × (length scratch64.new ≡ length scratch64.old)
         × (length scratch32.new ≡ length scratch32.old) }
 {
     let b = numbers::read_builder(builder);
-    let wrote = writing::write(area, b, prefix, scratch64, scratch32, output);
-    match wrote {
-        Wrote::Bytes(n) => {
+    match writing::write(area, b, prefix, scratch64, scratch32, output) {
+        Ok(n) => {
             *len = n;
             0
         }
-        Wrote::Refused(n) => n,
+        Err(refusal) => refusal.number(),
     }
 }

@@ -4,9 +4,9 @@ use mathlib.Core.Path.{◌≡◌, sym, ap, ap₂, ◌∙◌}
 use mathlib.Core.List.{List, ◌++◌}
 use Prim.Native.Nat.{ℕ, ◌+◌, ◌-◌, ◌≤◌}
 use native.Mathlib.Omega.{arith}
-use lib.ListN.{length, take, drop, length-drop}
-use lib.Seq.{sets, take_all}
-use Rattle.num.proofs.Lists.{part_length, part_part}
+use lib.ListN.{length, drop, length-drop}
+use lib.Seq.{sets}
+use Rattle.num.proofs.Lists.{part_length}
 use Rattle.encoding.specs.declared.Encoding.{Encoding}
 use Rattle.encoding.specs.Encoding.{key_header_len_of}
 use Rattle.area.specs.Area.{head_len, area_key_len, area_versions, area_key, first_version_at}
@@ -15,48 +15,28 @@ use Rattle.written.specs.Joined.{fields_bytes}
 use Rattle.written.specs.Arena.{key_header_fields, stored_bytes}
 use Rattle.written.proofs.Groups.{key_header_length}
 use Rattle.writer.specs.Write.{stored_from}
-use Rattle.keyversions.specs.Internal.{VersionsStand}
-use Rattle.keyrecords.specs.Internal.{KeyVersionsStand, key_record_bytes}
+use Rattle.keyrecords.specs.Internal.{key_record_bytes}
 
 -- a key that lies in the area has the length that its head says
 pub key_length : (area : List ℕ) (head : ℕ) → first_version_at area head ≤ length area → length (area_key area head) ≡ area_key_len area head
 unfolding area_key first_version_at
 key_length area head h = part_length area (head + head_len) (area_key_len area head) h
 
--- what is copied of a key is all behind what it shares
-suffix_part_lem : (area : List ℕ) (head shared : ℕ) → shared ≤ area_key_len area head → first_version_at area head ≤ length area
-    → take (area_key_len area head - shared) (drop (head + head_len + shared) area) ≡ drop shared (area_key area head)
-unfolding area_key
-suffix_part_lem area head shared l h =
-    let n = key_length area head h in
-    sym (part_part area (head + head_len) (area_key_len area head) shared (area_key_len area head - shared) (omega arith))
-    ∙ take_all (area_key_len area head - shared) (drop shared (area_key area head)) (omega (arith, length-drop shared (area_key area head)))
-
--- the versions stand behind it
-behind_suffix : (area : List ℕ) (head shared suffix-len : ℕ) → shared ≤ area_key_len area head → suffix-len ≡ area_key_len area head - shared
-    → head + head_len + shared + suffix-len ≡ first_version_at area head
-unfolding first_version_at
-behind_suffix area head shared suffix-len l m = omega arith
-
-pub stand_there : (area : List ℕ) (head least first versions : ℕ) → first ≡ first_version_at area head → versions ≡ area_versions area head → KeyVersionsStand area head least
-    → VersionsStand area first versions least
-stand_there area head least first versions p q s = rw (p, q) s
-
 -- the three parts of a key record, one behind the other
-pub record_parts : (e : Encoding) (least : ℕ) (area x₀ x₁ x₂ x₃ : List ℕ) (head anchor shared at place suffix-len versions : ℕ) → shared ≤ area_key_len area head
+pub record_parts : (e : Encoding) (least : ℕ) (area key x₀ x₁ x₂ x₃ : List ℕ) (head anchor shared at place end suffix-len versions first : ℕ)
     → first_version_at area head ≤ length area → suffix-len ≡ area_key_len area head - shared → versions ≡ area_versions area head → place ≡ at + key_header_len_of e
+    → end ≡ place + suffix-len → key ≡ area_key area head → first ≡ first_version_at area head
     → x₁ ≡ sets x₀ at (fields_bytes (key_header_fields e (record { anchor = anchor; shared = shared; suffix_len = suffix-len; versions = versions })))
-    → x₂ ≡ sets x₁ place (take suffix-len (drop (head + head_len + shared) area))
-    → x₃ ≡ sets x₂ (place + suffix-len) (stored_bytes e least (stored_from versions area (head + head_len + shared + suffix-len)))
+    → x₂ ≡ sets x₁ place (drop shared key)
+    → x₃ ≡ sets x₂ end (stored_bytes e least (stored_from versions area first))
     → x₃ ≡ sets x₀ at (key_record_bytes e least area head anchor shared)
 unfolding key_record_bytes
-record_parts e least area x₀ x₁ x₂ x₃ head anchor shared at place suffix-len versions l h m v p f g k =
+record_parts e least area key x₀ x₁ x₂ x₃ head anchor shared at place end suffix-len versions first h m v p q b d f g k =
     let fields : ℕ → ℕ → List ℕ = λ n c. fields_bytes (key_header_fields e (record { anchor = anchor; shared = shared; suffix_len = n; versions = c })) in
-    let s : take suffix-len (drop (head + head_len + shared) area) ≡ drop shared (area_key area head) = ap (λ (n : ℕ). take n (drop (head + head_len + shared) area)) m ∙ suffix_part_lem area head shared l h in
     let n = key_length area head h in
     let w : length (drop shared (area_key area head)) ≡ suffix-len = omega (arith, length-drop shared (area_key area head)) in
     behind x₀ x₁ x₃ (fields (area_key_len area head - shared) (area_versions area head)) (drop shared (area_key area head) ++ stored_bytes e least (stored_from (area_versions area head) area (first_version_at area head)))
     at place (ap (λ (n : ℕ). at + n) (key_header_length e _) ∙ sym p) (f ∙ ap₂ (λ (n c : ℕ). sets x₀ at (fields n c)) m v)
     (behind x₁ x₂ x₃ (drop shared (area_key area head)) (stored_bytes e least (stored_from (area_versions area head) area (first_version_at area head)))
-    place (place + suffix-len) (ap (λ (n : ℕ). place + n) w) (g ∙ ap (sets x₁ place) s)
-    (k ∙ ap₂ (λ (c q : ℕ). sets x₂ (place + suffix-len) (stored_bytes e least (stored_from c area q))) v (behind_suffix area head shared suffix-len l m)))
+    place end (ap (λ (n : ℕ). place + n) w ∙ sym q) (g ∙ ap (λ (l : List ℕ). sets x₁ place (drop shared l)) b)
+    (k ∙ ap₂ (λ (c q : ℕ). sets x₂ end (stored_bytes e least (stored_from c area q))) v d))

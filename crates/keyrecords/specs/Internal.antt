@@ -1,5 +1,5 @@
--- Not on the reading path: what writing the arena asks of the builder's area and of the slices that it is lent, and a key record by the place
--- of the key's head.
+-- Not on the reading path: what writing the arena asks of the builder's area and of the slices that it is lent, and a
+-- key record by the place of the key's head.
 use Rattle.std.specs.Prelude.{List, ◌++◌, ℕ, ◌+◌, ◌*◌, ◌-◌, ◌^◌, ◌<◌, ◌≤◌, length, drop}
 use Rattle.encoding.specs.declared.Encoding.{Encoding}
 use Rattle.encoding.specs.Encoding.{key_header_len_of, version_len_of}
@@ -25,7 +25,8 @@ key_record_bytes e least area head anchor shared =
 unfoldable pub key_record_size : Encoding → List ℕ → ℕ → ℕ → ℕ
 key_record_size e area head shared = key_header_len_of e + (area_key_len area head - shared) + area_versions area head * version_len_of e
 
--- the keys lie in the area, their numbers fit, and there is room for the arena and for the addresses, which have 32 bits
+-- the keys lie in the area, their numbers fit, and there is room for the arena and for the addresses, which have 32
+-- bits
 pub record ArenaAsked (area : List ℕ) (count : ℕ) (e : Encoding) (least : ℕ) (addresses output : List ℕ) : Type 0 where
   pub inside : keys_end count area 0 ≤ length area
   pub fits : GroupsFit e least (groups_in area count)

@@ -1,39 +1,23 @@
 // The arena written from the builder's area: a key record for each key, and the address of each.
 #![tactic(auto)]
 
-ghost use Rattle.std.specs.Prelude.{◌≡◌, ◌+◌, ◌%◌, ◌≤◌, eqb, length, take, drop};
+ghost use Rattle.std.specs.Prelude.{◌≡◌, ◌+◌, ◌%◌, ◌≤◌, eqb, length};
 ghost use Rattle.std.proofs.lemmas.List.Edits.{sets};
 ghost use Rattle.num.specs.Choice.{when◌then◌else◌};
 ghost use Rattle.num.specs.Internal.{RegionHolds, Frame};
 ghost use Rattle.num.specs.Order.{common_prefix_len};
 ghost use Rattle.encoding.specs.Encoding.{Widths, group, key_header_len_of};
-ghost use Rattle.area.specs.Area.{area_key_len, area_key, first_version_at, next_head};
+ghost use Rattle.area.specs.Area.{area_key_len, area_key};
 ghost use Rattle.written.specs.Joined.{fields_bytes};
 ghost use Rattle.written.specs.Arena.{key_header_fields, group_address, arena_written};
 ghost use Rattle.writer.specs.Write.{groups_in};
 ghost use Rattle.keyrecords.specs.Internal.{KeyVersionsStand, key_record_bytes, key_record_size, ArenaAsked};
 
+use area::Key;
 use arena::KeyHeader;
 use encoding::Encoding;
 
-// The bytes of a key's head in the area: its length and its number of versions.
-const HEAD: usize = 8;
-
-// The bytes of a version in the area.
-const VERSION: usize = 25;
-
-// Copies so many bytes of the area.
-fn put_part(output: &mut [u8], at: usize, area: &[u8], from: usize, count: usize)
-    requires { (from + count ≤ length area.now) × (at + count ≤ length output.old) }
-    ensures { output.new ≡ sets output.old at (take count (drop from area.now)) }
-{
-    let mut i = 0;
-    while i < count {
-        output[at + i] = area[from + i];
-        i += 1;
-    }
-}
-
+#[tactic(auto, unfolding(encoding::specs::Encoding::key_header_len_of))]
 fn put_key_header(output: &mut [u8], at: usize, e: Encoding, h: KeyHeader)
     requires { at + key_header_len_of e ≤ length output.old }
     ensures { output.new ≡ sets output.old at (fields_bytes (key_header_fields e h)) }
@@ -47,26 +31,26 @@ fn put_key_header(output: &mut [u8], at: usize, e: Encoding, h: KeyHeader)
     num::put_uint(output, versions, e.count, h.versions as u64);
 }
 
-// Writes the record of the key whose head stands at a place, and answers the place behind it.
+// Writes the record of a key, and answers the place behind it.
+#[tactic(auto, unfolding(crate::specs::Internal::key_record_size, area::specs::Area::area_defs))]
 fn put_key(
     output: &mut [u8],
     at: usize,
-    area: &[u8],
-    head: usize,
+    key: Key<'_>,
     anchor: usize,
     shared: usize,
     e: Encoding,
     least: u64,
 ) -> usize
-    requires widths { Widths e × KeyVersionsStand area.now head least × (shared ≤ area_key_len area.now head) }
-    requires shared_in_bounds { at + key_record_size e area.now head shared ≤ length output.old }
-    ensures output_after { output.new ≡ sets output.old at (key_record_bytes e least area.now head anchor shared) }
-    ensures value { result ≡ at + key_record_size e area.now head shared }
+    requires widths { Widths e × KeyVersionsStand key.area.now key.head least × (shared ≤ area_key_len key.area.now key.head) }
+    requires shared_in_bounds { at + key_record_size e key.area.now key.head shared ≤ length output.old }
+    ensures output_after { output.new ≡ sets output.old at (key_record_bytes e least key.entry.area.now key.entry.head anchor shared) }
+    ensures value { result ≡ at + key_record_size e key.entry.area.now key.entry.head shared }
 {
-    let suffix = head + HEAD + shared;
-    let suffix_len = num::u32_at(area, head) as usize - shared;
-    let versions = num::u32_at(area, head + 4) as usize;
+    let suffix_len = key.len() - shared;
+    let versions = key.versions();
     let place = at + e.key_header();
+    let end = place + suffix_len;
     put_key_header(
         output,
         at,
@@ -78,16 +62,8 @@ fn put_key(
             versions,
         },
     );
-    put_part(output, place, area, suffix, suffix_len);
-    keyversions::put_versions(
-        output,
-        place + suffix_len,
-        area,
-        suffix + suffix_len,
-        versions,
-        e,
-        least,
-    )
+    output[place..end].copy_from_slice(&key.bytes()[shared..]);
+    keyversions::put_versions(output, end, key.area, key.first(), versions, e, least)
 }
 
 // Every 1,024th key from key 0 on is an anchor.
@@ -97,32 +73,19 @@ fn is_anchor(i: usize) -> bool
     i % Encoding::GROUP == 0
 }
 
-// How many bytes key i shares with its anchor, by the places of their heads; none if it is one itself.
-fn shared_len(area: &[u8], i: usize, anchor: usize, head: usize) -> usize
-    requires { (first_version_at area.now anchor ≤ length area.now) × (first_version_at area.now head ≤ length area.now) }
-    ensures { result ≡ (when eqb (i % group) 0 then 0 else common_prefix_len (area_key area.now anchor) (area_key area.now head)) }
+// How many bytes key i shares with its anchor; none if it is one itself.
+#[tactic(auto, unfolding(num::specs::Choice::choice_defs))]
+fn shared_len(i: usize, anchor: Key<'_>, key: Key<'_>) -> usize
+    ensures { result ≡ (when eqb (i % group) 0 then 0 else common_prefix_len (area_key anchor.entry.area.now anchor.entry.head) (area_key key.entry.area.now key.entry.head)) }
 {
     if is_anchor(i) {
         return 0;
     }
-    let from = anchor + HEAD;
-    let end = from + num::u32_at(area, anchor) as usize;
-    let key = head + HEAD;
-    let key_end = key + num::u32_at(area, head) as usize;
-    sstable::common_prefix_len(&area[from..end], &area[key..key_end])
-}
-
-// The place of the next key's head.
-fn next_head(area: &[u8], head: usize) -> usize
-    requires { next_head area.now head ≤ length area.now }
-    ensures { result ≡ next_head area.now head }
-{
-    let len = num::u32_at(area, head) as usize;
-    let versions = num::u32_at(area, head + 4) as usize;
-    head + HEAD + len + VERSION * versions
+    sstable::common_prefix_len(anchor.bytes(), key.bytes())
 }
 
 // What is kept of an anchor: the new number at an anchor, else the one before.
+#[tactic(auto, unfolding(num::specs::Choice::choice_defs))]
 fn anchored(i: usize, new: usize, before: usize) -> usize
     ensures { result ≡ (when eqb (i % group) 0 then new else before) }
 {
@@ -148,14 +111,13 @@ pub fn write_arena(
     let mut anchor_address = 0;
     let mut head = 0;
     let mut at = 0;
-    let mut i = 0;
-    while i < count {
+    for i in 0..count {
         anchor = anchored(i, head, anchor);
         anchor_address = anchored(i, at + header, anchor_address);
-        let shared = shared_len(area, i, anchor, head);
+        let key = Key { area, head };
+        let shared = shared_len(i, Key { area, head: anchor }, key);
         addresses[i] = at as u32;
-        at = put_key(output, at, area, head, anchor_address, shared, e, least);
-        head = next_head(area, head);
-        i += 1;
+        at = put_key(output, at, key, anchor_address, shared, e, least);
+        head = key.end();
     }
 }

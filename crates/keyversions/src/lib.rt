@@ -12,10 +12,9 @@ ghost use Rattle.written.specs.Arena.{marked_size, checksum_fields, stored_field
 ghost use Rattle.writer.specs.Write.{stored_at, stored_from};
 ghost use Rattle.keyversions.specs.Internal.{VersionsStand};
 
+use area::VERSION;
 use encoding::Encoding;
-
-// The bytes of a version in the area.
-const VERSION: usize = 25;
+use num::LittleEndian;
 
 // The kind byte of a tombstone.
 const TOMBSTONE: u8 = 2;
@@ -25,20 +24,21 @@ fn marked_size(area: &[u8], place: usize, e: Encoding) -> u64
     requires { Widths e × (place + 25 ≤ length area.now) }
     ensures { result ≡ marked_size e (stored_at area.now place).kind (area_size area.now place) }
 {
-    let size = num::u32_at(area, place + 9) as u64;
+    let size = u32::read(area, place + 9) as u64;
     if area[place + 8] == TOMBSTONE {
-        return e.tombstone() + size;
+        e.tombstone() + size
+    } else {
+        size
     }
-    size
 }
 
 // Writes the CRC-32 of a value, with checksums.
-fn put_checksum(output: &mut [u8], at: usize, present: bool, checksum: u64)
+fn put_checksum(output: &mut [u8], at: usize, present: bool, checksum: u32)
     requires { at + (when present then 4 else 0) ≤ length output.old }
     ensures { output.new ≡ sets output.old at (fields_bytes (checksum_fields present checksum)) }
 {
     if present {
-        num::put_uint(output, at, 4, checksum);
+        checksum.write(output, at);
     }
 }
 
@@ -51,10 +51,10 @@ fn put_stored(output: &mut [u8], at: usize, area: &[u8], place: usize, e: Encodi
     let value = at + e.seq;
     let offset = value + e.value;
     let checksum = offset + e.address;
-    let crc = num::u32_at(area, place + 21) as u64;
-    num::put_uint(output, at, e.seq, num::u64_at(area, place) - least);
+    let crc = u32::read(area, place + 21);
+    num::put_uint(output, at, e.seq, u64::read(area, place) - least);
     num::put_uint(output, value, e.value, marked_size(area, place, e));
-    num::put_uint(output, offset, e.address, num::u64_at(area, place + 13));
+    num::put_uint(output, offset, e.address, u64::read(area, place + 13));
     put_checksum(output, checksum, e.checksum, crc);
 }
 
@@ -75,11 +75,9 @@ pub fn put_versions(
 {
     let size = e.version();
     let mut end = at;
-    let mut j = 0;
-    while j < count {
+    for j in 0..count {
         put_stored(output, end, area, first + VERSION * j, e, least);
         end += size;
-        j += 1;
     }
     end
 }

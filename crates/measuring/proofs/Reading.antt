@@ -3,7 +3,7 @@
 use mathlib.Core.Path.{◌≡◌, refl, sym, ap, ap₂, ◌∙◌, subst⁻¹}
 use mathlib.Core.Bool.{Bool, true, false}
 use mathlib.Core.List.{List}
-use mathlib.Core.Option.{some}
+use Rattle.std.specs.Prelude.{Some}
 use Prim.Native.Nat.{ℕ, zero, suc, ◌+◌, ◌-◌, ◌*◌, ◌/◌, ◌%◌, ◌<◌, ◌≤◌}
 use native.Mathlib.Omega.{arith}
 use native.Mathlib.Numerals.{add-one}
@@ -46,7 +46,7 @@ record VersionMeasured (area : List ℕ) (r : Builder) (head place count : ℕ) 
   after : q ≡ builder_after area r (counted_at area head place count new)
 
 version_measured : (area : List ℕ) (end : ℕ) (r : Builder) (head place count : ℕ) (new : Bool) (q : Builder) → Bytes area → Whole r.totals
-    → version_read area end r head place count new ≡ some q → VersionMeasured area r head place count new q
+    → version_read area end r head place count new ≡ Some q → VersionMeasured area r head place count new q
 unfolding builder_after totals_after counted_at
 version_measured area end r head place count new q bytes w e =
     let s = version_stands area end r head place count new q e in
@@ -85,7 +85,7 @@ unfolding builder_after totals_after counted_at when◌then◌else◌ both
 kept area r head place count = record { versions = refl; suffixes = omega arith; anchor = refl; used = omega arith }
 
 further_measured : (left : ℕ) (area : List ℕ) (end : ℕ) (r : Builder) (count : ℕ) (q : Builder) → Bytes area → Whole r.totals
-    → count ≤ r.totals.max_versions → versions_read left area end r count ≡ some q → FurtherMeasured area r count left q
+    → count ≤ r.totals.max_versions → versions_read left area end r count ≡ Some q → FurtherMeasured area r count left q
 unfolding versions_read
 further_measured zero area end r count q bytes w c e =
     let z : r ≡ q = cc in
@@ -139,7 +139,7 @@ begun : (area : List ℕ) (r : Builder) (place count : ℕ) → Begun area r (bu
 unfolding builder_after totals_after counted_at when◌then◌else◌ both
 begun area r place count = record { versions = refl; suffixes = refl; anchor = refl; used = omega arith; key_len = omega arith }
 
-key_measured : (area : List ℕ) (end : ℕ) (r q : Builder) → Bytes area → end ≤ length area → Whole r.totals → key_read area end r ≡ some q → KeyMeasured area r q
+key_measured : (area : List ℕ) (end : ℕ) (r q : Builder) → Bytes area → end ≤ length area → Whole r.totals → key_read area end r ≡ Some q → KeyMeasured area r q
 unfolding area_version_at first_version_at when◌then◌else◌
 key_measured area end r q bytes l w e =
     let f = key_parts area end r q e in
@@ -238,7 +238,7 @@ none_measured area =
     }
 
 -- the record that comes out is that of all keys
-pub area_measured : (area : List ℕ) (end : ℕ) (r : Builder) → Bytes area → end ≤ length area → area_read area end ≡ some r → KeysMeasured area r.totals.keys r
+pub area_measured : (area : List ℕ) (end : ℕ) (r : Builder) → Bytes area → end ≤ length area → area_read area end ≡ Some r → KeysMeasured area r.totals.keys r
 unfolding area_read
 area_measured area end r bytes l e =
     let k = keys_kept (λ (p : Builder). Running area end p × (n : ℕ) × KeysMeasured area n p) (suc end) area end

@@ -9,21 +9,18 @@ use native.Mathlib.Numerals.{add-one}
 use native.Mathlib.Omega.{arith}
 use lib.Dec.{leb}
 use lib.ListN.{length, get_or, take, drop, length-take}
-use lib.Seq.{take_all, take-take}
+use lib.Seq.{take_all}
 use borrow.Author.Tests.{leb-true, leb-false}
 use Rattle.num.specs.Choice.{when◌then◌else◌}
-use Rattle.num.specs.Number.{le_at}
 use Rattle.num.specs.Order.{equal_bytes}
-use Rattle.num.proofs.Lists.{part_length}
 use Rattle.num.proofs.Order.{equal_bytes-other}
-use Rattle.area.specs.Area.{area_key_len, area_key, next_head, keys_end, area_defs}
+use Rattle.area.specs.Area.{area_key, first_version_at, next_head, keys_end}
 use Rattle.area.proofs.Keys.{keys_next, keys_rise}
 use Rattle.construct.specs.Keys.{KeysStand}
 use Rattle.written.specs.Arena.{no_group, group_key}
 use Rattle.written.specs.Section.{group_prefix_new, group_prefixes}
 use Rattle.written.proofs.Agreement.{prefixes_le}
 use Rattle.writer.specs.Write.{group_at_of, groups_from, groups_in}
-use Rattle.prefixes.specs.Internal.{HeadInside}
 
 -- ---- where the heads stand: that of key i behind i keys
 
@@ -31,9 +28,9 @@ module _ {area : List ℕ} {n : ℕ} (s : KeysStand area n) (i head : ℕ) (l : 
   pub next_inside : next_head area head ≤ length area
   next_inside = let h = s.inside in omega (arith, keys_rise (suc i) n area 0 l, keys_next i area 0, ap (next_head area) e)
 
-  pub head_inside : HeadInside area head
-  unfolding area_defs
-  head_inside = record { inside = omega (arith, next_inside) }
+  pub head_inside : first_version_at area head ≤ length area
+  unfolding next_head
+  head_inside = omega (arith, next_inside)
 
 -- ---- the keys
 
@@ -49,56 +46,33 @@ key_found area n i l = ap (λ g. g.key) (group_found n i area 0 l)
 
 -- ---- the prefixes of two keys
 
--- a beginning of a beginning
-take_min : (m n : ℕ) (l : List ℕ) → take m (take n l) ≡ take (min m n) l
-take_min m n l = go (leb m n) refl
+-- a prefix goes no further than the key
+prefix_whole : (prefix : ℕ) (key : List ℕ) (n : ℕ) → n ≡ min prefix (length key) → take n key ≡ take prefix key
+prefix_whole prefix key n e = go (leb prefix (length key)) refl
   where
-    go : (b : Bool) → leb m n ≡ b → take m (take n l) ≡ take (min m n) l
+    go : (b : Bool) → leb prefix (length key) ≡ b → take n key ≡ take prefix key
     go true q =
-        let h = leb-true m n q in
-        let k : m ≡ min m n = omega arith in
-        take-take m n l h ∙ ap (λ (j : ℕ). take j l) k
+        let h = leb-true prefix (length key) q in
+        let k : n ≡ prefix = omega arith in
+        ap (λ (j : ℕ). take j key) k
     go false q =
-        let h = leb-false m n q in
-        let k : n ≡ min m n = omega arith in
-        take_all m (take n l) (omega (arith, length-take n l)) ∙ ap (λ (j : ℕ). take j l) k
+        let h = leb-false prefix (length key) q in
+        take_all n key (omega arith) ∙ sym (take_all prefix key (omega arith))
 
-module _ (prefix : ℕ) {area : List ℕ} {head len n : ℕ} (h : HeadInside area head) (e : len ≡ le_at area head 4) (f : n ≡ min prefix len) where
-  -- the prefix of a key is a part of the area
-  prefix_part : take prefix (area_key area head) ≡ take n (drop (head + 8) area)
-  unfolding area_key area_key_len
-  prefix_part =
-      take_min prefix (area_key_len area head) (drop (head + 8) area)
-      ∙ ap (λ (k : ℕ). take k (drop (head + 8) area)) (sym (f ∙ ap (min prefix) e))
+module _ (prefix : ℕ) (x y : List ℕ) (n m : ℕ) (e : n ≡ min prefix (length x)) (f : m ≡ min prefix (length y)) where
+  -- they differ if their lengths do
+  pub prefixes_other : (n ≡ m → ⊥) → equal_bytes (take prefix x) (take prefix y) ≡ false
+  prefixes_other d =
+      equal_bytes-other (take prefix x) (take prefix y) (λ q. d (omega (arith, ap (λ (l : List ℕ). length l) q, length-take prefix x, length-take prefix y)))
 
-  pub prefix_inside : head + 8 + n ≤ length area
-  unfolding area_defs
-  prefix_inside = let i = h.inside in omega arith
-
-  prefix_length : length (take prefix (area_key area head)) ≡ n
-  prefix_length = ap length prefix_part ∙ part_length area (head + 8) n prefix_inside
+  -- of one length they differ if so many bytes of the keys do
+  pub prefixes_same : n ≡ m → (same : Bool) → same ≡ equal_bytes (take n (drop 0 x)) (take n (drop 0 y)) → equal_bytes (take prefix x) (take prefix y) ≡ same
+  prefixes_same q same r =
+      sym (r ∙ ap₂ equal_bytes (prefix_whole prefix x n e) (ap (λ (k : ℕ). take k y) q ∙ prefix_whole prefix y m f))
 
 -- 1 if the prefixes of two keys differ, else 0
 abbrev pub change_of : List ℕ → ℕ → ℕ → ℕ → ℕ
 change_of area last head prefix = when not (equal_bytes (take prefix (area_key area head)) (take prefix (area_key area last))) then 1 else 0
-
-module _ (prefix : ℕ) {area : List ℕ} {head last lenₕ lenₗ n m : ℕ} (h : HeadInside area head) (g : HeadInside area last) (eₕ : lenₕ ≡ le_at area head 4)
-    (eₗ : lenₗ ≡ le_at area last 4) (fₕ : n ≡ min prefix lenₕ) (fₗ : m ≡ min prefix lenₗ) where
-  -- they differ if their lengths do
-  pub change_lengths : (n ≡ m → ⊥) → 1 ≡ change_of area last head prefix
-  unfolding when◌then◌else◌
-  change_lengths d =
-      let x = take prefix (area_key area head) in
-      let y = take prefix (area_key area last) in
-      let o = equal_bytes-other x y (λ q. d (sym (prefix_length prefix h eₕ fₕ) ∙ ap length q ∙ prefix_length prefix g eₗ fₗ)) in
-      sym (ap (λ (t : Bool). when◌then◌else◌ {A = ℕ} (not t) 1 0) o)
-
-  -- of one length they differ if those parts of the area do
-  pub change_parts : n ≡ m → (same : Bool) → same ≡ equal_bytes (take n (drop (head + 8) area)) (take n (drop (last + 8) area))
-      → (when not same then 1 else 0) ≡ change_of area last head prefix
-  change_parts e same r =
-      let y = prefix_part prefix g eₗ fₗ ∙ ap (λ (k : ℕ). take k (drop (last + 8) area)) (sym e) in
-      ap (λ (t : Bool). when◌then◌else◌ {A = ℕ} (not t) 1 0) (r ∙ sym (ap₂ equal_bytes (prefix_part prefix h eₕ fₕ) y))
 
 -- ---- how many there are
 
@@ -125,14 +99,14 @@ module _ {area : List ℕ} {n prefix prefixes head k : ℕ} (c : Counting area n
   counting_done h = let b = c.below in let e : suc k ≡ n = omega arith in c.counted ∙ ap (group_prefixes prefix (groups_in area n)) e
 
   module _ (s : KeysStand area n) where
-    pub counting_inside : HeadInside area head × (next_head area head ≤ length area)
+    pub counting_inside : (first_version_at area head ≤ length area) × (next_head area head ≤ length area)
     counting_inside = (head_inside s k head c.below c.place, next_inside s k head c.below c.place)
 
     module _ (next : ℕ) (l : suc k < n) (e : next ≡ next_head area head) where
       next_place : next ≡ keys_end (suc k) area 0
       next_place = e ∙ ap (next_head area) c.place ∙ sym (keys_next k area 0)
 
-      pub counting_next_inside : HeadInside area next
+      pub counting_next_inside : first_version_at area next ≤ length area
       counting_next_inside = head_inside s (suc k) next l next_place
 
       pub counting_next : (change : ℕ) → change ≡ change_of area head next prefix → Counting area n prefix (prefixes + change) next (k + 1)

@@ -31,7 +31,7 @@ part_first s at n = sym (take-append-drop n (drop at s)) ∙ ap (λ (l : List �
 
 -- a kind byte is the number of the kind that is read from it
 kind_byte : (n : ℕ) → one_of (1 ∷ 2 ∷ []) n ≡ true → n ≡ kind_number (when eqb n 2 then Tombstone else Put)
-unfolding kind_number when◌then◌else◌
+unfolding when◌then◌else◌
 kind_byte n e = one_of-case (λ (k : ℕ). k ≡ kind_number (when eqb k 2 then Tombstone else Put)) (1 ∷ 2 ∷ []) n e (refl, (refl, tt))
 
 module _ (s : List ℕ) (bytes : Bytes s) where

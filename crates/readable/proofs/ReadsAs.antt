@@ -3,7 +3,7 @@
 use mathlib.Core.Path.{◌≡◌, refl, sym, ap, ◌∙◌, subst, subst⁻¹}
 use mathlib.Core.Bool.{true}
 use mathlib.Core.List.{List, [], ◌∷◌, ◌++◌}
-use mathlib.Core.Option.{Option, some, none}
+use Rattle.std.specs.Prelude.{Option, Some, None}
 use Prim.Native.Nat.{ℕ, zero, suc, ◌+◌, ◌^◌, ◌<◌, ◌≤◌}
 use native.Mathlib.Nat.{not-suc-le-zero}
 use native.Mathlib.Omega.{arith}
@@ -71,8 +71,8 @@ module _ (area : List ℕ) (n : ℕ) (gs : List KeyGroup) (e : take n area ≡ a
 -- the question asks of the record its used bytes and its totals
 for_totals : (b c : Builder) (o : Option Builder) → b.totals ≡ c.totals → reads_back_for b o ≡ reads_back_for c o
 unfolding reads_back_for
-for_totals b c none e = refl
-for_totals b c (some r) e = ap (same_totals r.totals) e
+for_totals b c None e = refl
+for_totals b c (Some r) e = ap (same_totals r.totals) e
 
 asks_same : (area : List ℕ) (b c : Builder) → b.used ≡ c.used → b.totals ≡ c.totals → reads_back_of area b ≡ reads_back_of area c
 unfolding reads_back_of
@@ -89,7 +89,7 @@ from_groups area b gs small r =
 
 -- ---- from reading back to groups
 
-module _ (area : List ℕ) (end : ℕ) (r : Builder) (bytes : Bytes area) (inside : end ≤ length area) (e : area_read area end ≡ some r) where
+module _ (area : List ℕ) (end : ℕ) (r : Builder) (bytes : Bytes area) (inside : end ≤ length area) (e : area_read area end ≡ Some r) where
   abbrev gs : List KeyGroup
   gs = groups_in area r.totals.keys
 

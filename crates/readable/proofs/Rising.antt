@@ -3,7 +3,7 @@
 use mathlib.Core.Path.{◌≡◌, refl, sym, ap, ◌∙◌, subst, subst⁻¹}
 use mathlib.Core.Bool.{Bool, true, false}
 use mathlib.Core.List.{List, [], ◌∷◌, ◌++◌}
-use mathlib.Core.Option.{some}
+use Rattle.std.specs.Prelude.{Some}
 use Prim.Native.Nat.{ℕ, zero, suc, ◌+◌, ◌-◌, ◌<◌, ◌≤◌}
 use native.Mathlib.Nat.{not-suc-le-zero}
 use native.Mathlib.Numerals.{add-one}
@@ -50,7 +50,7 @@ record Rises (r : Builder) (vs : List StoredVersion) (q : Builder) : Type 0 wher
   last : q.totals.last_value_offset ≡ last_from r.totals.last_value_offset vs
 
 version_rises : (area : List ℕ) (end : ℕ) (r : Builder) (head place count : ℕ) (new : Bool) (p : Builder) (vs : List StoredVersion) (q : Builder)
-    → version_read area end r head place count new ≡ some p → Rises p vs q → Rises r (stored_at area place ∷ vs) q
+    → version_read area end r head place count new ≡ Some p → Rises p vs q → Rises r (stored_at area place ∷ vs) q
 unfolding Rising gathered stored_at builder_after totals_after counted_at
 version_rises area end r head place count new p vs q e h =
     let s = version_stands area end r head place count new p e in
@@ -61,7 +61,7 @@ version_rises area end r head place count new p vs q e h =
     }
 
 further_rise : (left : ℕ) (area : List ℕ) (end : ℕ) (r : Builder) (count : ℕ) (q : Builder) → Running area end r
-    → versions_read left area end r count ≡ some q → Rises r (stored_from left area r.used) q
+    → versions_read left area end r count ≡ Some q → Rises r (stored_from left area r.used) q
 unfolding versions_read stored_from Rising gathered
 further_rise zero area end r count q run e =
     let z : r ≡ q = cc in
@@ -72,7 +72,7 @@ further_rise (suc left) area end r count q run e =
     version_rises area end r r.last_key r.used (count + 1) false f.0 (stored_from left area (r.used + 25)) q f.1
     (subst (λ (n : ℕ). Rises f.0 (stored_from left area n) q) u.used (further_rise left area end f.0 (count + 1) q u.running f.2))
 
-key_rises_lem : (area : List ℕ) (end : ℕ) (r q : Builder) → end ≤ length area → Running area end r → key_read area end r ≡ some q
+key_rises_lem : (area : List ℕ) (end : ℕ) (r q : Builder) → end ≤ length area → Running area end r → key_read area end r ≡ Some q
     → Rises r (group_at_of area r.used).versions q
 unfolding group_at_of stored_from first_version_at area_version_at
 key_rises_lem area end r q l run e =
@@ -112,7 +112,7 @@ record KeysRise (area : List ℕ) (n : ℕ) (r : Builder) : Type 0 where
   rises : Rises empty_builder (versions_of (groups_in area n)) r
 
 module _ (area : List ℕ) (end : ℕ) (l : end ≤ length area) where
-  one_more : (n : ℕ) (r q : Builder) → KeysRise area n r → Running area end r → key_read area end r ≡ some q → KeysRise area (suc n) q
+  one_more : (n : ℕ) (r q : Builder) → KeysRise area n r → Running area end r → key_read area end r ≡ Some q → KeysRise area (suc n) q
   unfolding head_at_of groups_in empty_builder
   one_more n r q k run e =
       let s = key_stands area end r q l run e in
@@ -133,7 +133,7 @@ module _ (area : List ℕ) (end : ℕ) (l : end ≤ length area) where
       }
 
   -- the offsets of an area that is read rise from 0 on
-  pub area_rises : (r : Builder) → area_read area end ≡ some r → Rising 0 (versions_of (groups_in area r.totals.keys))
+  pub area_rises : (r : Builder) → area_read area end ≡ Some r → Rising 0 (versions_of (groups_in area r.totals.keys))
   unfolding area_read empty_builder head_at_of groups_in groups_from versions_of Rising gathered
   area_rises r e =
       let k = keys_kept (λ (p : Builder). Running area end p × (n : ℕ) × KeysRise area n p) (suc end) area end

@@ -3,7 +3,7 @@
 use mathlib.Core.Path.{◌≡◌, refl, sym, ap, ◌∙◌, subst⁻¹}
 use mathlib.Core.Bool.{Bool, true, false}
 use mathlib.Core.List.{List, [], ◌∷◌}
-use mathlib.Core.Option.{Option, some, none}
+use Rattle.std.specs.Prelude.{Option, Some, None}
 use Prim.Native.Nat.{ℕ, zero, suc, ◌+◌, ◌-◌, ◌*◌, ◌≤◌, ◌<◌}
 use native.Mathlib.Omega.{arith}
 use native.Mathlib.Numerals.{add-one}
@@ -24,7 +24,7 @@ use Rattle.readback.specs.ReadBack.{counted_at, version_read, versions_read, ver
 use Rattle.readback.specs.Places.{area_version_at, head_at_of, AreaKeyStands, AreaStands}
 use Rattle.readback.specs.Internal.{Running}
 
-none_some : (q : Builder) → none ≡ some q → ⊥
+none_some : (q : Builder) → None ≡ Some q → ⊥
 none_some q e = let z : ◌≡◌ {A = ℕ} 0 1 = cc in omega arith
 
 -- ---- a version
@@ -40,7 +40,7 @@ pub record VersionStands (area : List ℕ) (end : ℕ) (r : Builder) (head place
   pub after : q ≡ builder_after area r (counted_at area head place count new)
 
 pub version_stands : (area : List ℕ) (end : ℕ) (r : Builder) (head place count : ℕ) (new : Bool) (q : Builder)
-    → version_read area end r head place count new ≡ some q → VersionStands area end r head place count new q
+    → version_read area end r head place count new ≡ Some q → VersionStands area end r head place count new q
 unfolding version_read within_limits
 version_stands area end r head place count new q e =
     let p₀ = if_first _ _ _ _ (none_some q) e in
@@ -105,10 +105,10 @@ module _ (area : List ℕ) (end : ℕ) (r : Builder) (h : Running area end r) wh
 -- ---- the further versions of a key
 
 -- what goes on after a reading that gave a record
-pub follows : (o : Option Builder) (next : Builder → Option Builder) (q : Builder) → elim o [ some p ↦ next p | none ↦ none ] ≡ some q
-    → (p : Builder) × (o ≡ some p) × (next p ≡ some q)
-follows none next q e = absurd (none_some q e)
-follows (some p) next q e = (p, refl, e)
+pub follows : (o : Option Builder) (next : Builder → Option Builder) (q : Builder) → elim o [ Some p ↦ next p | None ↦ None ] ≡ Some q
+    → (p : Builder) × (o ≡ Some p) × (next p ≡ Some q)
+follows None next q e = absurd (none_some q e)
+follows (Some p) next q e = (p, refl, e)
 
 -- one of them
 pub record Further (area : List ℕ) (end : ℕ) (r q : Builder) : Type 0 where
@@ -117,7 +117,7 @@ pub record Further (area : List ℕ) (end : ℕ) (r q : Builder) : Type 0 where
   pub keys : q.totals.keys ≡ r.totals.keys
 
 pub further : (area : List ℕ) (end : ℕ) (r : Builder) (head count : ℕ) (q : Builder) → Running area end r
-    → version_read area end r head r.used count false ≡ some q → Further area end r q
+    → version_read area end r head r.used count false ≡ Some q → Further area end r q
 unfolding builder_after totals_after counted_at when◌then◌else◌
 further area end r head count q h e =
     let s = version_stands area end r head r.used count false q e in
@@ -145,7 +145,7 @@ first_more P at left k ks (suc j) l =
     subst⁻¹ P e (ks j (omega arith))
 
 versions_stand : (left : ℕ) (area : List ℕ) (end : ℕ) (r : Builder) (count : ℕ) (q : Builder) → Running area end r
-    → versions_read left area end r count ≡ some q → VersionsStand area end r left q
+    → versions_read left area end r count ≡ Some q → VersionsStand area end r left q
 unfolding versions_read
 versions_stand zero area end r count q h e =
     let z : r ≡ q = cc in
@@ -184,7 +184,7 @@ pub record First (area : List ℕ) (end : ℕ) (r q : Builder) : Type 0 where
   pub keys : q.totals.keys ≡ r.totals.keys + 1
 
 pub first : (area : List ℕ) (end : ℕ) (r : Builder) (len count : ℕ) (q : Builder) → len ≡ area_key_len area r.used → end ≤ length area → Running area end r
-    → version_read area end r r.used (r.used + head_len + len) count true ≡ some q → First area end r q
+    → version_read area end r r.used (r.used + head_len + len) count true ≡ Some q → First area end r q
 unfolding builder_after totals_after counted_at when◌then◌else◌ area_version_at first_version_at
 first area end r len count q z l h e =
     let at = r.used + head_len + len in
@@ -196,20 +196,20 @@ first area end r len count q z l h e =
       keys = ap (λ (b : Builder). b.totals.keys) s.after;
     }
 
-versions_follow : (left : ℕ) (area : List ℕ) (end : ℕ) (o : Option Builder) (q : Builder) → versions_read_for left area end o ≡ some q
-    → (p : Builder) × (o ≡ some p) × (versions_read left area end p 1 ≡ some q)
+versions_follow : (left : ℕ) (area : List ℕ) (end : ℕ) (o : Option Builder) (q : Builder) → versions_read_for left area end o ≡ Some q
+    → (p : Builder) × (o ≡ Some p) × (versions_read left area end p 1 ≡ Some q)
 unfolding versions_read_for
-versions_follow left area end none q e = absurd (none_some q e)
-versions_follow left area end (some p) q e = (p, refl, e)
+versions_follow left area end None q e = absurd (none_some q e)
+versions_follow left area end (Some p) q e = (p, refl, e)
 
 -- its first version gave a record, and its further ones behind that gave what came out
 pub record KeyParts (area : List ℕ) (end : ℕ) (r q : Builder) : Type 0 where
   pub some_version : 0 < area_versions area r.used
   pub behind : Builder
-  pub one : version_read area end r r.used (r.used + head_len + area_key_len area r.used) 1 true ≡ some behind
-  pub more : versions_read (area_versions area r.used - 1) area end behind 1 ≡ some q
+  pub one : version_read area end r r.used (r.used + head_len + area_key_len area r.used) 1 true ≡ Some behind
+  pub more : versions_read (area_versions area r.used - 1) area end behind 1 ≡ Some q
 
-pub key_parts : (area : List ℕ) (end : ℕ) (r q : Builder) → key_read area end r ≡ some q → KeyParts area end r q
+pub key_parts : (area : List ℕ) (end : ℕ) (r q : Builder) → key_read area end r ≡ Some q → KeyParts area end r q
 unfolding key_read
 key_parts area end r q e =
     let p₀ = if_first _ _ _ _ (none_some q) e in
@@ -218,7 +218,7 @@ key_parts area end r q e =
     let f = versions_follow (area_versions area r.used - 1) area end (version_read area end r r.used (r.used + head_len + area_key_len area r.used) 1 true) q p₂.1 in
     record { some_version = ltb-true 0 (area_versions area r.used) p₂.0; behind = f.0; one = f.1; more = f.2 }
 
-pub key_stands : (area : List ℕ) (end : ℕ) (r q : Builder) → end ≤ length area → Running area end r → key_read area end r ≡ some q → KeyReadStands area end r q
+pub key_stands : (area : List ℕ) (end : ℕ) (r q : Builder) → end ≤ length area → Running area end r → key_read area end r ≡ Some q → KeyReadStands area end r q
 unfolding next_head first_version_at area_version_at
 key_stands area end r q l h e =
     let f = key_parts area end r q e in
@@ -261,14 +261,14 @@ one_more area end r q s (u, ks) =
     )
 
 -- what each key keeps holds of the record that comes out, behind the end
-pub keys_kept : (P : Builder → Type 0) (most : ℕ) (area : List ℕ) (end : ℕ) → ((p s : Builder) → P p → key_read area end p ≡ some s → P s)
-    → (r q : Builder) → P r → keys_read most area end r ≡ some q → P q × (end ≤ q.used)
+pub keys_kept : (P : Builder → Type 0) (most : ℕ) (area : List ℕ) (end : ℕ) → ((p s : Builder) → P p → key_read area end p ≡ Some s → P s)
+    → (r q : Builder) → P r → keys_read most area end r ≡ Some q → P q × (end ≤ q.used)
 unfolding keys_read
 keys_kept P zero area end step r q h e = absurd (none_some q e)
 keys_kept P (suc most) area end step r q h e = go (leb end r.used) refl e (λ p. keys_kept P most area end step p q)
   where
-    go : (t : Bool) → leb end r.used ≡ t → elim t [ true ↦ some r | false ↦ elim (key_read area end r) [ some q ↦ keys_read most area end q | none ↦ none ] ] ≡ some q
-        → ((p : Builder) → P p → keys_read most area end p ≡ some q → P q × (end ≤ q.used)) → P q × (end ≤ q.used)
+    go : (t : Bool) → leb end r.used ≡ t → elim t [ true ↦ Some r | false ↦ elim (key_read area end r) [ Some q ↦ keys_read most area end q | None ↦ None ] ] ≡ Some q
+        → ((p : Builder) → P p → keys_read most area end p ≡ Some q → P q × (end ≤ q.used)) → P q × (end ≤ q.used)
     go true f g rest =
         let z : r ≡ q = cc in
         subst⁻¹ (λ (x : Builder). P x × (end ≤ x.used)) (sym z) (h, leb-true end r.used f)
@@ -277,7 +277,7 @@ keys_kept P (suc most) area end step r q h e = go (leb end r.used) refl e (λ p.
         rest p.0 (step r p.0 h p.1) p.2
 
 -- an area that reads back: it is used up to the end, and the keys stand one behind the other
-pub area_stands : (area : List ℕ) (end : ℕ) (r : Builder) → end ≤ length area → area_read area end ≡ some r
+pub area_stands : (area : List ℕ) (end : ℕ) (r : Builder) → end ≤ length area → area_read area end ≡ Some r
     → (r.used ≡ end) × AreaStands area end r.totals.keys
 unfolding area_read KeysBefore head_at_of empty_builder
 area_stands area end r l e =
@@ -316,16 +316,16 @@ same_totals_lem a b e =
       last_value_offset = e₉ i;
     }
 
-record_read : (b : Builder) (o : Option Builder) → reads_back_for b o ≡ true → (r : Builder) × (o ≡ some r) × (r.totals ≡ b.totals)
+record_read : (b : Builder) (o : Option Builder) → reads_back_for b o ≡ true → (r : Builder) × (o ≡ Some r) × (r.totals ≡ b.totals)
 unfolding reads_back_for
-record_read b none e = false_true e
-record_read b (some r) e = (r, refl, same_totals_lem r.totals b.totals e)
+record_read b None e = false_true e
+record_read b (Some r) e = (r, refl, same_totals_lem r.totals b.totals e)
 
 -- what an area that reads back to a record gives, the keys that stand in it among it
 pub record ReadBack (area : List ℕ) (b : Builder) : Type 0 where
   pub inside : b.used ≤ length area
   pub record_of : Builder
-  pub read : area_read area b.used ≡ some record_of
+  pub read : area_read area b.used ≡ Some record_of
   pub totals : record_of.totals ≡ b.totals
   pub keys_stand : AreaStands area b.used b.totals.keys
 

@@ -1,18 +1,10 @@
 -- Not on the reading path: what the functions of this crate hand to each other.
 use Rattle.std.specs.Prelude.{ℕ, ◌+◌, ◌^◌, ◌≤◌, ◌<◌, Bool, List, [], ◌∷◌, leb, length}
-use Rattle.std.proofs.Math.Option.{Option, some, none}
 use Rattle.num.specs.Choice.{when◌then◌else◌, both, one_of}
 use Rattle.sstable.specs.Limits.{within_limits}
 use Rattle.builder.specs.declared.Builder.{Builder}
 use Rattle.area.specs.Area.{head_len, area_key_len, area_kind, area_size, area_offset}
 use Rattle.builder.specs.Add.{max_keys}
-use Rattle.readback.specs.declared.Read.{Read}
-use Rattle.readback.specs.declared.Read.TheVariants.{Record, Refused}
-
--- what was read, as the definitions say it
-unfoldable pub record_read_of : Read → Option Builder
-record_read_of (Record r) = some r
-record_read_of Refused = none
 
 -- the questions of a version but that of its end
 unfoldable pub version_passes : List ℕ → Builder → ℕ → ℕ → Bool → Bool

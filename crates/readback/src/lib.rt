@@ -1,146 +1,115 @@
 // Reading the builder's area back: question 37 of writing.
 #![tactic(auto)]
 
-ghost use Rattle.std.specs.Prelude.{◌≡◌, true, ◌+◌, ◌-◌, ◌≤◌, ◌<◌, leb, length};
-ghost use Rattle.num.specs.Choice.{when◌then◌else◌};
+ghost use Rattle.std.specs.Prelude.{◌≡◌, true, ◌+◌, ◌-◌, ◌≤◌, ◌<◌, length};
 ghost use Rattle.area.specs.Area.{area_key_len};
 ghost use Rattle.builder.specs.Record.{sizeable};
-ghost use Rattle.readback.specs.ReadBack.{version_read, versions_read, key_read, area_read, same_totals, reads_back_of};
-ghost use Rattle.readback.specs.Internal.{LentArea, Running, record_read_of, version_passes};
+ghost use Rattle.readback.specs.ReadBack.{version_read, versions_read, key_read, area_read, reads_back_of};
+ghost use Rattle.readback.specs.Internal.{LentArea, Running, version_passes};
 
-use builder::Builder;
+use area::Key;
+use builder::{Builder, Counter, Tally};
 use encoding::Totals;
-
-// The record of what was read, or that an entry was refused.
-#[derive(Clone, Copy)]
-enum Read {
-    Record(Builder),
-    Refused,
-}
-
-// The bytes of a key's head in the area, and of a version.
-const HEAD: u64 = 8;
-
-const VERSION: u64 = 25;
-
-const MAX_KEYS: u64 = 1_048_576;
-
-// Question 33.
-fn few_keys(keys: u64, new_key: bool) -> bool
-    ensures { result ≡ leb (keys + (when new_key then 1 else 0)) 1048576 }
-{
-    if new_key {
-        return keys < MAX_KEYS;
-    }
-    keys <= MAX_KEYS
-}
+use num::LittleEndian;
 
 // Is the kind of a version at a place known, and are 30, 32 and 33 answered with yes?
+#[tactic(auto, unfolding(crate::specs::Internal::version_passes, area::specs::Area::area_defs, num::specs::Choice::choice_defs))]
 fn version_passes(area: &[u8], r: Builder, len: usize, place: usize, new_key: bool) -> bool
     requires { place + 25 ≤ length area.now }
     ensures { result ≡ version_passes area.now r len place new_key }
 {
     let t = r.totals;
-    let kind = area[place + 8];
-    let size = num::u32_at(area, place + 9) as usize;
-    let offset = num::u64_at(area, place + 13);
-    ((kind == 1) | (kind == 2))
-        & (sstable::mutation(len, size)
-            & ((t.last_value_offset <= offset) & few_keys(t.keys, new_key)))
+    matches!(area[place + 8], 1 | 2)
+        && sstable::mutation(len, u32::read(area, place + 9) as usize)
+        && t.last_value_offset <= u64::read(area, place + 13)
+        && builder::few_keys(t.keys, new_key)
 }
 
-// The version at a place, of the key whose head stands at another.
-fn version_read(
-    area: &[u8],
+// What was read of the area before an end.
+#[derive(Clone, Copy)]
+struct Progress<'a> {
+    area: &'a [u8],
     end: u64,
-    r: Builder,
-    head: u64,
-    place: u64,
-    count: u64,
-    new_key: bool,
-) -> Read
-    requires lent_area { LentArea area.now end × Running area.now end r }
-    requires head_bound { (head + 8 + area_key_len area.now head ≤ end) × (place ≤ end) }
-    ensures { record_read_of result ≡ version_read area.now end r head place count new_key }
-{
-    if end < place + VERSION {
-        return Read::Refused;
-    }
-    let at = place as usize;
-    let from = head as usize + HEAD as usize;
-    let len = num::u32_at(area, head as usize) as usize;
-    if !version_passes(area, r, len, at, new_key) {
-        return Read::Refused;
-    }
-    let to = from + len;
-    let size = num::u32_at(area, at + 9) as u64;
-    let seq = num::u64_at(area, at);
-    let offset = num::u64_at(area, at + 13);
-    Read::Record(builder::builder_after(
-        area,
-        r,
-        &area[from..to],
-        count,
-        size,
-        seq,
-        offset,
-        new_key,
-    ))
+    read: Builder,
+    ghost lent: { LentArea area.now end },
+    ghost running: { Running area.now end read },
 }
 
-// The versions of the last key behind its first.
-fn versions_read(area: &[u8], end: u64, first: Builder, versions: u64) -> Read
-    requires lent_area { LentArea area.now end × Running area.now end first }
-    requires keys_nonzero { (0 < first.totals.keys) × (0 < versions) }
-    ensures { record_read_of result ≡ versions_read (versions - 1) area.now end first 1 }
-{
-    let mut r = first;
-    let mut count = 1;
-    while count < versions {
-        let read = version_read(area, end, r, r.last_key, r.used, count + 1, false);
-        match read {
-            Read::Record(q) => {
-                r = q;
-                count += 1;
-            }
-            Read::Refused => {
-                return Read::Refused;
-            }
+impl<'a> Progress<'a> {
+    // The version at a place, of the key whose head stands at another.
+    #[tactic(auto, unfolding(crate::specs::ReadBack::version_read, crate::specs::ReadBack::counted_at, crate::specs::Internal::version_passes, area::specs::Area::area_defs, num::specs::Choice::choice_defs))]
+    fn version(self, head: u64, place: u64, count: u64, new_key: bool) -> Option<Builder>
+        requires { (head + 8 + area_key_len self.area.now head ≤ self.end) × (place ≤ self.end) }
+        ensures { result ≡ version_read self.entry.area.now self.entry.end self.entry.read head place count new_key }
+    {
+        let area = self.area;
+        let at = place as usize;
+        let key = Key {
+            area,
+            head: head as usize,
+        };
+        if self.end < place + area::VERSION as u64
+            || !version_passes(area, self.read, key.len(), at, new_key)
+        {
+            return None;
         }
+        let counter = Counter {
+            area,
+            builder: self.read,
+        };
+        Some(counter.builder_after(Tally {
+            key: key.bytes(),
+            count,
+            size: u32::read(area, at + 9) as u64,
+            seq: u64::read(area, at),
+            offset: u64::read(area, at + 13),
+            new_key,
+        }))
     }
-    Read::Record(r)
-}
 
-// The key whose head stands behind the used bytes, with its versions.
-fn key_read(area: &[u8], end: u64, r: Builder) -> Read
-    requires { LentArea area.now end × Running area.now end r }
-    ensures { record_read_of result ≡ key_read area.now end r }
-{
-    let head = r.used;
-    if end < head + HEAD {
-        return Read::Refused;
+    // The versions of the last key behind its first.
+    fn versions(self, versions: u64) -> Option<Builder>
+        requires { (0 < self.read.totals.keys) × (0 < versions) }
+        ensures { result ≡ versions_read (versions - 1) self.entry.area.now self.entry.end self.entry.read 1 }
+    {
+        let (area, end) = (self.area, self.end);
+        let mut read = self.read;
+        for count in 1..versions {
+            let progress = Progress { area, end, read };
+            read = progress.version(read.last_key, read.used, count + 1, false)?;
+        }
+        Some(read)
     }
-    let place = head + HEAD + num::u32_at(area, head as usize) as u64;
-    if end < place {
-        return Read::Refused;
-    }
-    let versions = num::u32_at(area, head as usize + 4) as u64;
-    if versions == 0 {
-        return Read::Refused;
-    }
-    let read = version_read(area, end, r, head, place, 1, true);
-    match read {
-        Read::Record(q) => versions_read(area, end, q, versions),
-        Read::Refused => Read::Refused,
+
+    // The key whose head stands behind the used bytes, with its versions.
+    #[tactic(auto, unfolding(crate::specs::ReadBack::key_read, crate::specs::ReadBack::versions_read_for, area::specs::Area::area_defs, num::specs::Choice::choice_defs))]
+    fn key(self) -> Option<Builder>
+        ensures { result ≡ key_read self.entry.area.now self.entry.end self.entry.read }
+    {
+        let (area, end) = (self.area, self.end);
+        let head = self.read.used;
+        if end < head + area::HEAD as u64 {
+            return None;
+        }
+        let place = head + area::HEAD as u64 + u32::read(area, head as usize) as u64;
+        if end < place {
+            return None;
+        }
+        let versions = u32::read(area, head as usize + 4) as u64;
+        if versions == 0 {
+            return None;
+        }
+        let read = self.version(head, place, 1, true)?;
+        Progress { area, end, read }.versions(versions)
     }
 }
 
 // The keys from the empty record on.
-fn area_read(area: &[u8], end: u64) -> Read
+fn area_read(area: &[u8], end: u64) -> Option<Builder>
     requires { LentArea area.now end }
-    ensures { record_read_of result ≡ area_read area.now end }
+    ensures { result ≡ area_read area.now end }
 {
-    let mut r = Builder {
+    let mut read = Builder {
         totals: Totals {
             keys: 0,
             versions: 0,
@@ -156,35 +125,14 @@ fn area_read(area: &[u8], end: u64) -> Read
         last_key: 0,
         anchor: 0,
     };
-    while r.used < end {
-        let read = key_read(area, end, r);
-        match read {
-            Read::Record(q) => {
-                r = q;
-            }
-            Read::Refused => {
-                return Read::Refused;
-            }
-        }
+    while read.used < end {
+        read = Progress { area, end, read }.key()?;
     }
-    Read::Record(r)
-}
-
-fn same_totals(a: Totals, b: Totals) -> bool
-    ensures { result ≡ same_totals a b }
-{
-    (a.keys == b.keys)
-        & ((a.versions == b.versions)
-            & ((a.suffix_bytes == b.suffix_bytes)
-                & ((a.min_seq == b.min_seq)
-                    & ((a.max_seq == b.max_seq)
-                        & ((a.max_key_len == b.max_key_len)
-                            & ((a.max_value_len == b.max_value_len)
-                                & ((a.max_versions == b.max_versions)
-                                    & (a.last_value_offset == b.last_value_offset))))))))
+    Some(read)
 }
 
 // Does the used area lie in the lent one, and does it read back to the record?
+#[tactic(auto, unfolding(crate::specs::ReadBack::reads_back_of, crate::specs::ReadBack::reads_back_for, crate::specs::ReadBack::same_totals, num::specs::Choice::choice_defs))]
 pub fn reads_back(area: &[u8], b: Builder) -> bool
     requires { sizeable b ≡ true }
     ensures { result ≡ reads_back_of area.now b }
@@ -192,9 +140,8 @@ pub fn reads_back(area: &[u8], b: Builder) -> bool
     if (area.len() as u64) < b.used {
         return false;
     }
-    let read = area_read(area, b.used);
-    match read {
-        Read::Record(r) => same_totals(r.totals, b.totals),
-        Read::Refused => false,
+    match area_read(area, b.used) {
+        Some(read) => read.totals == b.totals,
+        None => false,
     }
 }

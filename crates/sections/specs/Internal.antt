@@ -59,7 +59,8 @@ pub record ScanAsked (area : List ℕ) (count : ℕ) (e : Encoding) (prefix : �
 
 -- ---- the section
 
--- totals counted of the area's keys, an encoding that their numbers fit, a key in each slot, the hashes of the keys, and room
+-- totals counted of the area's keys, an encoding that their numbers fit, a key in each slot, the hashes of the keys,
+-- and room
 pub record SectionAsked (area : List ℕ) (t : Totals) (e : Encoding) (prefix seed : ℕ) (hashes scratch output : List ℕ) : Type 0 where
   pub some : 1 ≤ t.keys
   pub few : t.keys ≤ 2 ^ 20

@@ -9,6 +9,7 @@ ghost use Rattle.written.specs.Section.{scan_part_bytes, section_bytes};
 ghost use Rattle.writer.specs.Write.{groups_in};
 ghost use Rattle.sections.specs.Internal.{ArenaLent, Noted, TablesAsked, tables_bytes, ScanAsked, SectionAsked};
 
+use construction::Regions;
 use encoding::{Encoding, Totals};
 
 // Where the addresses of the keys are kept in the scratch, behind the pilots and the slots.
@@ -16,7 +17,7 @@ fn indices_at(count: usize) -> usize
     requires { count ≤ 2 ^ 20 }
     ensures { result ≡ indices_at count }
 {
-    3 * ((count + 1) / 2) + 5 + 3 * count
+    Regions::of(count).indices
 }
 
 // Writes the arena at its place, and notes the addresses of the keys at a place of the scratch.

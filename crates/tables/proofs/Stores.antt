@@ -8,9 +8,8 @@ use native.Mathlib.Numerals.{add-one}
 use native.Mathlib.Omega.{arith}
 use lib.ListN.{length, set, take}
 use lib.Seq.{sets, take-suc-set}
-use Rattle.num.specs.Number.{le_at, le_bytes}
+use Rattle.num.specs.Number.{le_bytes}
 use Rattle.crc32.specs.V42.{crc_of}
-use Rattle.encoding.specs.Encoding.{magic, scan_magic}
 use Rattle.num.proofs.Stores.{behind, behind_number}
 use Rattle.written.specs.Joined.{joined, Field, fields_bytes}
 use Rattle.written.specs.Joined.Field.{field}
@@ -28,19 +27,9 @@ module _ (x₀ x₁ : List ℕ) where
   unfolding fields_bytes
   field_more x₂ fs a b w v h e f = behind_number x₀ x₁ x₂ (fields_bytes fs) a b w v h e f
 
-  -- a magic, read as a number of eight bytes and stored
-  pub magic_first : (x₂ m : List ℕ) (fs : List Field) (r : ℕ) → le_bytes 8 (le_at m 0 8) ≡ m → r ≡ le_at m 0 8 → x₁ ≡ sets x₀ 0 (le_bytes 8 r)
-      → x₂ ≡ sets x₁ 8 (fields_bytes fs) → x₂ ≡ sets x₀ 0 (m ++ fields_bytes fs)
-  magic_first x₂ m fs r p q e f =
-      behind_number x₀ x₁ x₂ (fields_bytes fs) 0 8 8 r (omega arith) e f ∙ ap (λ (l : List ℕ). sets x₀ 0 (l ++ fields_bytes fs)) (ap (le_bytes 8) q ∙ p)
-
-pub magic_bytes : le_bytes 8 (le_at magic 0 8) ≡ magic
-unfolding magic le_at le_bytes
-magic_bytes = refl
-
-pub scan_magic_bytes : le_bytes 8 (le_at scan_magic 0 8) ≡ scan_magic
-unfolding scan_magic le_at le_bytes
-scan_magic_bytes = refl
+  -- a magic, and numbers behind it
+  pub magic_first : (x₂ m : List ℕ) (fs : List Field) → length m ≡ 8 → x₁ ≡ sets x₀ 0 m → x₂ ≡ sets x₁ 8 (fields_bytes fs) → x₂ ≡ sets x₀ 0 (m ++ fields_bytes fs)
+  magic_first x₂ m fs n e f = behind x₀ x₁ x₂ m (fields_bytes fs) 0 8 (omega arith) e f
 
 pub fields_append : (fs gs : List Field) → fields_bytes (fs ++ gs) ≡ fields_bytes fs ++ fields_bytes gs
 unfolding fields_bytes

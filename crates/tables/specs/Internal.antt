@@ -1,4 +1,5 @@
--- Not on the reading path: the parts of a section over the lists that its writers are lent, and what the writers ask of them.
+-- Not on the reading path: the parts of a section over the lists that its writers are lent, and what the writers ask of
+-- them.
 use Rattle.std.specs.Prelude.{◌≡◌, List, [], ◌∷◌, ◌++◌, ℕ, ◌+◌, ◌*◌, ◌^◌, ◌<◌, ◌≤◌, length, get_or}
 use Rattle.num.specs.Number.{le_bytes}
 use Rattle.point.specs.Hash.{fingerprint_of}

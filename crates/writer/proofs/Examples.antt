@@ -3,7 +3,9 @@
 use mathlib.Core.Path.{◌≡◌, refl}
 use mathlib.Core.List.{List}
 use Prim.Native.Nat.{ℕ}
-use Rattle.num.specs.Answer.{Answer, given, refused}
+use Rattle.std.specs.Prelude.{Result, Ok, Err}
+use Rattle.refusal.specs.declared.Refusal.{Refusal}
+use Rattle.refusal.specs.declared.Refusal.TheVariants as refusal
 use Rattle.num.specs.Choice.{choice_defs}
 use Rattle.num.specs.Number.{le_at, le_bytes}
 use Rattle.num.specs.Order.{common_prefix_len, equal_bytes}
@@ -27,19 +29,19 @@ use Rattle.worked.specs.Worked.{worked_section, worked_scan_section, worked_defs
 use Rattle.writer.specs.Write.{write_of, write_defs}
 
 -- the section of the worked adds with a scan prefix, for scratches and an output of these lengths
-written_for : Answer BuilderState → ℕ → ℕ → ℕ → ℕ → Answer (List ℕ)
-written_for (refused n) prefix room64 room32 room = refused n
-written_for (given b) prefix room64 room32 room = write_of b.area b.builder prefix room64 room32 room
+written_for : Result BuilderState Refusal → ℕ → ℕ → ℕ → ℕ → Result (List ℕ) Refusal
+written_for (Err e) prefix room64 room32 room = Err e
+written_for (Ok b) prefix room64 room32 room = write_of b.area b.builder prefix room64 room32 room
 
-worked : (written_for (add_all (empty_in 95) worked_offers) 0 2 20 135 ≡ given worked_section)
-    × (written_for (add_all (empty_in 95) worked_offers) 1 2 20 175 ≡ given worked_scan_section)
-unfolding written_for add_all empty_in worked_offers worked_defs write_defs section_defs arena_written_defs joined fields_bytes read_back_defs add_defs builder_defs offer_defs area_defs construct_defs class_defs encoding_defs hash_defs limit_defs kind_number crc_defs common_prefix_len equal_bytes le_at le_bytes choice_defs
+worked : (written_for (add_all (empty_in 95) worked_offers) 0 2 20 135 ≡ Ok worked_section)
+    × (written_for (add_all (empty_in 95) worked_offers) 1 2 20 175 ≡ Ok worked_scan_section)
+unfolding written_for add_all empty_in worked_offers worked_defs write_defs section_defs arena_written_defs joined fields_bytes read_back_defs add_defs builder_defs offer_defs area_defs construct_defs class_defs encoding_defs hash_defs limit_defs crc_defs common_prefix_len equal_bytes le_at le_bytes choice_defs
 worked = (refl, refl)
 
 -- prefix 25 is 35; a scratch or an output one short is 38 or 39
-refusals : (written_for (add_all (empty_in 95) worked_offers) 25 2 20 175 ≡ refused 35)
-    × (written_for (add_all (empty_in 95) worked_offers) 0 1 20 135 ≡ refused 38)
-    × (written_for (add_all (empty_in 95) worked_offers) 0 2 19 135 ≡ refused 38)
-    × (written_for (add_all (empty_in 95) worked_offers) 0 2 20 134 ≡ refused 39)
-unfolding written_for add_all empty_in worked_offers worked_defs write_defs section_defs arena_written_defs joined fields_bytes read_back_defs add_defs builder_defs offer_defs area_defs construct_defs class_defs encoding_defs hash_defs limit_defs kind_number crc_defs common_prefix_len equal_bytes le_at le_bytes choice_defs
+refusals : (written_for (add_all (empty_in 95) worked_offers) 25 2 20 175 ≡ Err refusal.PrefixLong)
+    × (written_for (add_all (empty_in 95) worked_offers) 0 1 20 135 ≡ Err refusal.BuildScratch)
+    × (written_for (add_all (empty_in 95) worked_offers) 0 2 19 135 ≡ Err refusal.BuildScratch)
+    × (written_for (add_all (empty_in 95) worked_offers) 0 2 20 134 ≡ Err refusal.SectionRoom)
+unfolding written_for add_all empty_in worked_offers worked_defs write_defs section_defs arena_written_defs joined fields_bytes read_back_defs add_defs builder_defs offer_defs area_defs construct_defs class_defs encoding_defs hash_defs limit_defs crc_defs common_prefix_len equal_bytes le_at le_bytes choice_defs
 refusals = (refl, refl, refl, refl)

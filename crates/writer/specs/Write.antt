@@ -1,9 +1,10 @@
 -- Writing a section from the builder's area: questions 35 to 40 (document 01, "Building").
-use Rattle.std.specs.Prelude.{ℕ, zero, suc, ◌+◌, ◌*◌, Bool, List, [], ◌∷◌, eqb, leb, ltb, get_or}
+use Rattle.std.specs.Prelude.{ℕ, zero, suc, ◌+◌, ◌*◌, Bool, List, [], ◌∷◌, eqb, leb, ltb, get_or, Result, Ok, Err}
 use Rattle.std.proofs.lemmas.List.Edits.{sets}
 use Rattle.num.specs.Choice.{when◌then◌else◌, ask◌otherwise◌then◌, both}
 use Rattle.num.specs.Number.{le_at}
-use Rattle.num.specs.Answer.{Answer, given, refused}
+use Rattle.refusal.specs.declared.Refusal.{Refusal}
+use Rattle.refusal.specs.declared.Refusal.TheVariants as refusal
 use Rattle.sstable.specs.declared.Kind.TheVariants.{Put, Tombstone}
 use Rattle.encoding.specs.Encoding.{max_scan_prefix, encoding_of, section_len_of}
 use Rattle.area.specs.Area.{area_version_len, area_versions, area_key, first_version_at, next_head, area_kind, area_size, area_offset, area_checksum, keys_in_of}
@@ -52,27 +53,27 @@ unfoldable pub scratch_enough : ℕ → ℕ → ℕ → Bool
 scratch_enough n room64 room32 = both (leb n room64) (leb (6 * n + 8) room32)
 
 -- the section's bytes, by what construction gives; 40 is construction's
-unfoldable pub section_for : List ℕ → Builder → ℕ → Answer Constructed → Answer (List ℕ)
-section_for area b prefix (refused n) = refused n
-section_for area b prefix (given c) =
-    given
+unfoldable pub section_for : List ℕ → Builder → ℕ → Result Constructed Refusal → Result (List ℕ) Refusal
+section_for area b prefix (Err n) = Err refusal.NoSeed  -- 40
+section_for area b prefix (Ok c) =
+    Ok
     (section_bytes (encoding_of b.totals) c.seed b.totals.min_seq (groups_in area b.totals.keys)
     (λ x. get_or c.placement.pilots x 0) (λ m. get_or c.placement.slots m 0) prefix)
 
 -- the section that is written with a scan prefix, with scratches and an output of these lengths
-unfoldable pub write_of : List ℕ → Builder → ℕ → ℕ → ℕ → ℕ → Answer (List ℕ)
+unfoldable pub write_of : List ℕ → Builder → ℕ → ℕ → ℕ → ℕ → Result (List ℕ) Refusal
 write_of area b prefix room64 room32 room =
-    ask leb prefix max_scan_prefix otherwise refused 35 then
-    ask ltb 0 b.totals.keys otherwise refused 36 then
-    ask both (sizeable b) (reads_back_of area b) otherwise refused 37 then
-    ask scratch_enough b.totals.keys room64 room32 otherwise refused 38 then
-    ask leb (section_len_of (encoding_of b.totals) b.totals prefix) room otherwise refused 39 then
+    ask leb prefix max_scan_prefix otherwise Err refusal.PrefixLong then  -- 35
+    ask ltb 0 b.totals.keys otherwise Err refusal.NoKey then  -- 36
+    ask both (sizeable b) (reads_back_of area b) otherwise Err refusal.Builder then  -- 37
+    ask scratch_enough b.totals.keys room64 room32 otherwise Err refusal.BuildScratch then  -- 38
+    ask leb (section_len_of (encoding_of b.totals) b.totals prefix) room otherwise Err refusal.SectionRoom then  -- 39
     section_for area b prefix (construct_of (keys_in_of area b.totals.keys))
 
 -- the output behind writing: nothing is written on a refusal, and places past the section keep what they held
-unfoldable pub section_written : Answer (List ℕ) → List ℕ → List ℕ
-section_written (given s) before = sets before 0 s
-section_written (refused n) before = before
+unfoldable pub section_written : Result (List ℕ) Refusal → List ℕ → List ℕ
+section_written (Ok s) before = sets before 0 s
+section_written (Err e) before = before
 
 -- for proofs alone: `unfolding write_defs` opens the definitions of this file
 unfoldable pub write_defs : ℕ

@@ -1,6 +1,6 @@
 -- From construction to the section.
 -- Assumes nothing.
-use mathlib.Core.Path.{◌≡◌, sym, ap, ◌∙◌, subst, subst⁻¹}
+use mathlib.Core.Path.{◌≡◌, sym, ap, ◌∙◌, subst⁻¹}
 use mathlib.Core.List.{List, [], map}
 use Prim.Native.Nat.{ℕ, ◌+◌, ◌*◌, ◌<◌, ◌≤◌}
 use native.Mathlib.Omega.{arith}
@@ -8,19 +8,19 @@ use lib.ListN.{length, get_or, take, length-map}
 use lib.Seq.{sets, get_or-take}
 use borrow.Author.Tests.{leb-true, ltb-true}
 use Rattle.num.specs.Number.{Bytes}
-use Rattle.num.specs.Answer.{Answer, given, refused}
+use Rattle.std.specs.Prelude.{Some, None, Result, Ok, Err}
+use Rattle.refusal.specs.declared.Refusal.{Refusal}
+use Rattle.refusal.specs.declared.Refusal.TheVariants as refusal
 use Rattle.num.proofs.Choice.{both_true}
 use Rattle.num.proofs.Lists.{map_at}
 use Rattle.encoding.specs.declared.Encoding.{Encoding}
 use Rattle.encoding.specs.Encoding.{encoding_of, section_len_of}
 use Rattle.area.specs.Area.{keys_in_of}
 use Rattle.point.specs.Hash.{hash_value}
-use Rattle.construction.specs.Construct.{Constructed, seed_of, hashes_of, construct_of}
+use Rattle.construction.specs.Construct.{seed_of, hashes_of, construct_of}
 use Rattle.construction.specs.Scratch.{placement_in}
 use Rattle.construction.specs.Promises.{PlacementSound, SeedDecided}
 use Rattle.construction.proofs.Promises.{placement_sound, seed_decided}
-use Rattle.construct.specs.declared.Built.{Built}
-use Rattle.construct.specs.declared.Built.TheVariants.{Seed, Exhausted}
 use Rattle.construct.specs.Keys.{KeysStand}
 use Rattle.construct.specs.Built.{built_as, Hashed}
 use Rattle.builder.specs.declared.Builder.{Builder}
@@ -29,23 +29,11 @@ use Rattle.written.specs.Section.{group_hash, section_bytes}
 use Rattle.writer.specs.Write.{groups_in, scratch_enough, section_for, write_of, section_written}
 use Rattle.measuring.specs.Measured.{AreaMeasured, ReadBackMeasured}
 use Rattle.measuring.proofs.Measured.{read_back_measured}
-use Rattle.writing.specs.declared.Wrote.TheVariants as wrote
 use Rattle.writing.specs.Wrote.{wrote_read}
 use Rattle.sections.specs.Internal.{SectionAsked}
 use Rattle.writing.specs.Internal.{Asked}
 use Rattle.writing.proofs.Questions.{asked_all}
 use Rattle.writing.proofs.Narrow.{arena_narrow}
-
--- what construction leaves, by its answer
-module _ {r : Built} {seed : ℕ} (e : r ≡ Seed seed) where
-  pub seed_hashed : (keys : List (List ℕ)) (hashes : List ℕ) → Hashed r keys hashes → Hashed (Seed seed) keys hashes
-  seed_hashed keys hashes h = subst (λ (q : Built). Hashed q keys hashes) e h
-
-  pub seed_built : (n : ℕ) (scratch : List ℕ) {answer : Answer Constructed} → built_as r n scratch ≡ answer → built_as (Seed seed) n scratch ≡ answer
-  seed_built n scratch {answer} h = subst (λ (q : Built). built_as q n scratch ≡ answer) e h
-
-pub none_built : {r : Built} (n : ℕ) (scratch : List ℕ) {answer : Answer Constructed} → r ≡ Exhausted → built_as r n scratch ≡ answer → built_as Exhausted n scratch ≡ answer
-none_built n scratch {answer = answer} e h = subst (λ (q : Built). built_as q n scratch ≡ answer) e h
 
 module _ {area : List ℕ} {b : Builder} {prefix size room64 room32 room : ℕ} (bytes : Bytes area) (a : Asked area b prefix size room64 room32 room) where
   abbrev n : ℕ
@@ -69,7 +57,7 @@ module _ {area : List ℕ} {b : Builder} {prefix size room64 room32 room : ℕ} 
   keys_count : length (keys_in_of area n) ≡ n
   keys_count = ap length measured.keys ∙ length-map (groups_in area n) (λ (g : KeyGroup). g.key) ∙ measured.count
 
-  module _ (hashes scratch : List ℕ) (seed : ℕ) (h : Hashed (Seed seed) (keys_in_of area n) hashes) (c : built_as (Seed seed) n scratch ≡ construct_of (keys_in_of area n)) where
+  module _ (hashes scratch : List ℕ) (seed : ℕ) (h : Hashed (Some seed) (keys_in_of area n) hashes) (c : built_as (Some seed) n scratch ≡ construct_of (keys_in_of area n)) where
     hash_of : (i : ℕ) → i < n → get_or hashes i 0 ≡ group_hash seed (groups_in area n) i
     unfolding Hashed hashes_of group_hash group_key
     hash_of i l =
@@ -115,32 +103,32 @@ module _ {area : List ℕ} {b : Builder} {prefix size room64 room32 room : ℕ} 
     bytes_of e =
         section_bytes e seed b.totals.min_seq (groups_in area n) (λ x. get_or (placement_in n scratch).pilots x 0) (λ m. get_or (placement_in n scratch).slots m 0) prefix
 
-    given-section : write_of area b prefix room64 room32 room ≡ given (bytes_of (encoding_of b.totals))
+    given-section : write_of area b prefix room64 room32 room ≡ Ok (bytes_of (encoding_of b.totals))
     unfolding section_for built_as
     given-section = asked_all a ∙ ap (section_for area b prefix) (sym c)
 
     pub section_given : (e : Encoding) (before after : List ℕ) → e ≡ encoding_of b.totals → after ≡ sets before 0 (bytes_of e)
-        → (wrote.Bytes size ≡ wrote_read (write_of area b prefix room64 room32 room)) × (after ≡ section_written (write_of area b prefix room64 room32 room) before)
+        → (◌≡◌ {A = Result ℕ Refusal} (Ok size) (wrote_read (write_of area b prefix room64 room32 room))) × (after ≡ section_written (write_of area b prefix room64 room32 room) before)
     unfolding wrote_read section_written
     section_given e before after f g =
         let t = b.totals in
         let s = bytes_of (encoding_of t) in
         let k : size ≡ length s =
         a.length_of ∙ sym (measured.size seed (λ x. get_or (placement_in n scratch).pilots x 0) (λ m. get_or (placement_in n scratch).slots m 0) prefix) in (
-          ap wrote.Bytes k ∙ ap wrote_read (sym given-section),
-          g ∙ ap (λ (d : Encoding). sets before 0 (bytes_of d)) f ∙ ap (λ (r : Answer (List ℕ)). section_written r before) (sym given-section),
+          ap Ok k ∙ ap wrote_read (sym given-section),
+          g ∙ ap (λ (d : Encoding). sets before 0 (bytes_of d)) f ∙ ap (λ (r : Result (List ℕ) Refusal). section_written r before) (sym given-section),
         )
 
   -- no seed serves
-  pub none_given : (scratch before : List ℕ) → built_as Exhausted n scratch ≡ construct_of (keys_in_of area n)
-      → (wrote.Refused 40 ≡ wrote_read (write_of area b prefix room64 room32 room)) × (before ≡ section_written (write_of area b prefix room64 room32 room) before)
+  pub none_given : (scratch before : List ℕ) → built_as None n scratch ≡ construct_of (keys_in_of area n)
+      → (◌≡◌ {A = Result ℕ Refusal} (Err refusal.NoSeed) (wrote_read (write_of area b prefix room64 room32 room))) × (before ≡ section_written (write_of area b prefix room64 room32 room) before)
   unfolding section_for built_as wrote_read section_written
   none_given scratch before c =
-      let w : write_of area b prefix room64 room32 room ≡ refused 40 = asked_all a ∙ ap (section_for area b prefix) (sym c) in
-      (ap wrote_read (sym w), ap (λ (r : Answer (List ℕ)). section_written r before) (sym w))
+      let w : write_of area b prefix room64 room32 room ≡ Err refusal.NoSeed = asked_all a ∙ ap (section_for area b prefix) (sym c) in
+      (ap wrote_read (sym w), ap (λ (r : Result (List ℕ) Refusal). section_written r before) (sym w))
 
 -- 35 to 39
-pub refused_given : (area : List ℕ) (b : Builder) (prefix room64 room32 room k : ℕ) (before : List ℕ) → write_of area b prefix room64 room32 room ≡ refused k
-    → (wrote.Refused k ≡ wrote_read (write_of area b prefix room64 room32 room)) × (before ≡ section_written (write_of area b prefix room64 room32 room) before)
+pub refused_given : (area : List ℕ) (b : Builder) (prefix room64 room32 room : ℕ) (k : Refusal) (before : List ℕ) → write_of area b prefix room64 room32 room ≡ Err k
+    → (◌≡◌ {A = Result ℕ Refusal} (Err k) (wrote_read (write_of area b prefix room64 room32 room))) × (before ≡ section_written (write_of area b prefix room64 room32 room) before)
 unfolding wrote_read section_written
-refused_given area b prefix room64 room32 room k before w = (ap wrote_read (sym w), ap (λ (r : Answer (List ℕ)). section_written r before) (sym w))
+refused_given area b prefix room64 room32 room k before w = (ap wrote_read (sym w), ap (λ (r : Result (List ℕ) Refusal). section_written r before) (sym w))

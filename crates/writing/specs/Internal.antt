@@ -1,13 +1,13 @@
 -- Not on the reading path: what the code asks before it writes.
-use Rattle.std.specs.Prelude.{◌≡◌, true, List, ℕ, leb, ltb}
-use Rattle.num.specs.Answer.{refused}
+use Rattle.std.specs.Prelude.{◌≡◌, true, List, ℕ, leb, ltb, Result, Ok, Err}
+use Rattle.num.specs.Choice.{ask◌otherwise◌then◌, both}
+use Rattle.refusal.specs.declared.Refusal.{Refusal}
+use Rattle.refusal.specs.declared.Refusal.TheVariants as refusal
 use Rattle.encoding.specs.Encoding.{max_scan_prefix, encoding_of, section_len_of}
 use Rattle.builder.specs.declared.Builder.{Builder}
-use Rattle.builder.specs.declared.Sized.{Sized}
-use Rattle.builder.specs.declared.Sized.TheVariants as sized
 use Rattle.builder.specs.Record.{sizeable}
 use Rattle.readback.specs.ReadBack.{reads_back_of}
-use Rattle.writer.specs.Write.{scratch_enough, write_of}
+use Rattle.writer.specs.Write.{scratch_enough}
 
 -- 35 to 39 are answered with yes, and this is the section's length
 pub record Asked (area : List ℕ) (b : Builder) (prefix size room64 room32 room : ℕ) : Type 0 where
@@ -19,7 +19,12 @@ pub record Asked (area : List ℕ) (b : Builder) (prefix size room64 room32 room
   pub output : leb (section_len_of (encoding_of b.totals) b.totals prefix) room ≡ true
   pub length_of : size ≡ section_len_of (encoding_of b.totals) b.totals prefix
 
--- they are, or the number is that of the first which is not
-unfoldable pub Judged : List ℕ → Builder → ℕ → ℕ → ℕ → ℕ → Sized → Type 0
-Judged area b prefix room64 room32 room (sized.Bytes n) = Asked area b prefix n room64 room32 room
-Judged area b prefix room64 room32 room (sized.Refused n) = write_of area b prefix room64 room32 room ≡ refused n
+-- 35 to 39 alone, as writing asks them: the section's length
+unfoldable pub asked_of : List ℕ → Builder → ℕ → ℕ → ℕ → ℕ → Result ℕ Refusal
+asked_of area b prefix room64 room32 room =
+    ask leb prefix max_scan_prefix otherwise Err refusal.PrefixLong then  -- 35
+    ask ltb 0 b.totals.keys otherwise Err refusal.NoKey then  -- 36
+    ask both (sizeable b) (reads_back_of area b) otherwise Err refusal.Builder then  -- 37
+    ask scratch_enough b.totals.keys room64 room32 otherwise Err refusal.BuildScratch then  -- 38
+    ask leb (section_len_of (encoding_of b.totals) b.totals prefix) room otherwise Err refusal.SectionRoom then  -- 39
+    Ok (section_len_of (encoding_of b.totals) b.totals prefix)

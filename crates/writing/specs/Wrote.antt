@@ -1,15 +1,8 @@
 -- What writing answers.
-use Rattle.std.specs.Prelude.{List, ℕ, length}
-use Rattle.num.specs.Answer.{Answer, given, refused}
-use Rattle.writing.specs.declared.Wrote.{Wrote}
-use Rattle.writing.specs.declared.Wrote.TheVariants as wrote
+use Rattle.std.specs.Prelude.{List, ℕ, length, Result, Ok, Err}
+use Rattle.refusal.specs.declared.Refusal.{Refusal}
 
--- how many bytes the section has, or the number
-unfoldable pub wrote_read : Answer (List ℕ) → Wrote
-wrote_read (given s) = wrote.Bytes (length s)
-wrote_read (refused n) = wrote.Refused n
-
--- the number of the question that writing fails, 0 if it fails none
-unfoldable pub wrote_number : Wrote → ℕ
-wrote_number (wrote.Bytes n) = 0
-wrote_number (wrote.Refused n) = n
+-- how many bytes the section has, or the refusal
+unfoldable pub wrote_read : Result (List ℕ) Refusal → Result ℕ Refusal
+wrote_read (Ok s) = Ok (length s)
+wrote_read (Err e) = Err e

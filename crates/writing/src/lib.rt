@@ -4,54 +4,46 @@
 ghost use Rattle.std.specs.Prelude.{◌≡◌, ◌^◌, ◌≤◌, length};
 ghost use Rattle.writer.specs.Write.{scratch_enough, write_of, section_written};
 ghost use Rattle.writing.specs.Wrote.{wrote_read};
-ghost use Rattle.writing.specs.Internal.{Asked, Judged};
+ghost use Rattle.writing.specs.Internal.{Asked, asked_of};
 
-use builder::{Builder, Sized};
-use construct::Built;
+use builder::Builder;
 use encoding::Encoding;
-
-// How many bytes were written, or the number of the question that failed.
-#[derive(Clone, Copy)]
-pub enum Wrote {
-    Bytes(u64),
-    Refused(u64),
-}
+use refusal::{Refusal, ask};
 
 // Question 38.
+#[tactic(auto, unfolding(writer::specs::Write::scratch_enough, num::specs::Choice::choice_defs))]
 fn scratch_enough(keys: u64, room64: usize, room32: usize) -> bool
     requires { keys ≤ 2 ^ 30 }
     ensures { result ≡ scratch_enough keys room64 room32 }
 {
-    (keys <= room64 as u64) & (6 * keys + 8 <= room32 as u64)
+    keys <= room64 as u64 && 6 * keys + 8 <= room32 as u64
 }
 
-// Questions 35 to 39: the length of the section, or the number of the first that is answered with no.
-fn asked(area: &[u8], b: Builder, prefix: u64, room64: usize, room32: usize, room: usize) -> Sized
-    ensures { Judged area.now b prefix room64 room32 room result }
+// Questions 35 to 39: the length of the section.
+#[tactic(auto, unfolding(crate::specs::Internal::asked_of, builder::specs::Record::size_of_section, num::specs::Choice::choice_defs))]
+fn asked(
+    area: &[u8],
+    b: Builder,
+    prefix: u64,
+    room64: usize,
+    room32: usize,
+    room: usize,
+) -> Result<u64, Refusal>
+    ensures { result ≡ asked_of area.now b prefix room64 room32 room }
 {
-    let t = b.totals;
-    if prefix > Encoding::MAX_SCAN_PREFIX as u64 {
-        return Sized::Refused(35);
-    }
-    if t.keys == 0 {
-        return Sized::Refused(36);
-    }
-    let sized = builder::size(b, prefix);
-    match sized {
-        Sized::Bytes(size) => {
-            if !readback::reads_back(area, b) {
-                return Sized::Refused(37);
-            }
-            if !scratch_enough(t.keys, room64, room32) {
-                return Sized::Refused(38);
-            }
-            if (room as u64) < size {
-                return Sized::Refused(39);
-            }
-            Sized::Bytes(size)
-        }
-        Sized::Refused(n) => Sized::Refused(n),
-    }
+    ask(
+        prefix <= Encoding::MAX_SCAN_PREFIX as u64,
+        Refusal::PrefixLong,
+    )?;
+    ask(0 < b.totals.keys, Refusal::NoKey)?;
+    let size = builder::size(b, prefix)?;
+    ask(readback::reads_back(area, b), Refusal::Builder)?;
+    ask(
+        scratch_enough(b.totals.keys, room64, room32),
+        Refusal::BuildScratch,
+    )?;
+    ask(size <= room as u64, Refusal::SectionRoom)?;
+    Ok(size)
 }
 
 // Question 40, and the section if it is answered with yes.
@@ -63,7 +55,7 @@ fn build(
     hashes: &mut [u64],
     scratch: &mut [u32],
     output: &mut [u8],
-) -> Wrote
+) -> Result<u64, Refusal>
     requires { Asked area.now b prefix size (length hashes.old) (length scratch.old) (length output.old) }
     ensures value { result ≡ wrote_read (write_of area.now b prefix (length hashes.old) (length scratch.old) (length output.old)) }
     ensures output_after { output.new ≡ section_written (write_of area.now b prefix (length hashes.old) (length scratch.old) (length output.old)) output.old }
@@ -71,18 +63,14 @@ fn build(
 {
     let t = b.totals;
     let e = Encoding::for_builder(t);
-    let built = construct::construct(area, t.keys as usize, hashes, scratch);
-    match built {
-        Built::Seed(seed) => {
-            sections::write_section(area, t, e, prefix as usize, seed, hashes, scratch, output);
-            Wrote::Bytes(size)
-        }
-        Built::Exhausted => Wrote::Refused(40),
-    }
+    let Some(seed) = construct::construct(area, t.keys as usize, hashes, scratch) else {
+        return Err(Refusal::NoSeed);
+    };
+    sections::write_section(area, t, e, prefix as usize, seed, hashes, scratch, output);
+    Ok(size)
 }
 
-// Writes the section with a scan prefix, or answers the number of the first question that is answered with no, which leaves the output as
-// it was.
+// Writes the section with a scan prefix, or leaves the output as it was.
 pub fn write(
     area: &[u8],
     b: Builder,
@@ -90,14 +78,11 @@ pub fn write(
     hashes: &mut [u64],
     scratch: &mut [u32],
     output: &mut [u8],
-) -> Wrote
+) -> Result<u64, Refusal>
     ensures value { result ≡ wrote_read (write_of area.now b prefix (length hashes.old) (length scratch.old) (length output.old)) }
     ensures output_after { output.new ≡ section_written (write_of area.now b prefix (length hashes.old) (length scratch.old) (length output.old)) output.old }
     ensures hashes_len_unchanged { (length hashes.new ≡ length hashes.old) × (length scratch.new ≡ length scratch.old) }
 {
-    let sized = asked(area, b, prefix, hashes.len(), scratch.len(), output.len());
-    match sized {
-        Sized::Bytes(size) => build(area, b, prefix, size, hashes, scratch, output),
-        Sized::Refused(n) => Wrote::Refused(n),
-    }
+    let size = asked(area, b, prefix, hashes.len(), scratch.len(), output.len())?;
+    build(area, b, prefix, size, hashes, scratch, output)
 }

@@ -1,5 +1,5 @@
 -- What is written opens and packs (promise P4, from the key groups on).
-use Rattle.std.specs.Prelude.{◌≡◌, true, List, [], ◌∷◌, ℕ, suc, ◌*◌, ◌^◌, ◌<◌, ◌≤◌, length}
+use Rattle.std.specs.Prelude.{◌≡◌, true, List, [], ◌∷◌, ℕ, suc, ◌*◌, ◌^◌, ◌<◌, ◌≤◌, length, Ok}
 use Rattle.num.specs.Order.{less_than}
 use Rattle.crc32.specs.V42.{crc_of}
 use Rattle.sstable.specs.Limits.{max_key_bytes, max_value_bytes}
@@ -8,7 +8,6 @@ use Rattle.point.specs.Hash.{bucket_of, slot_of, is_direct, direct_slot}
 use Rattle.encoding.specs.declared.Encoding.{Encoding}
 use Rattle.encoding.specs.Encoding.{max_scan_prefix, buckets_of}
 use Rattle.header.specs.declared.Opened.{Opened}
-use Rattle.header.specs.declared.HeaderRead.TheVariants.{Accepted}
 use Rattle.header.specs.Header.{packed_record}
 use Rattle.validate.specs.Walk.{value_of}
 use Rattle.opening.specs.Open.{open_of}
@@ -83,7 +82,7 @@ pub record BesideGroups («data» blocks : List ℕ) (scratch : ℕ) (gs : List 
 
 -- a section opens as a record
 unfoldable pub OpensAs : List ℕ → List ℕ → List ℕ → ℕ → Opened → Type 0
-OpensAs s «data» blocks scratch o = open_of s «data» blocks scratch ≡ Accepted o
+OpensAs s «data» blocks scratch o = open_of s «data» blocks scratch ≡ Ok o
 
 -- it packs into every output that holds the packed bytes (9)
 unfoldable pub PacksAs : List ℕ → List ℕ → List ℕ → ℕ → Opened → Type 0

@@ -15,12 +15,12 @@ overflow_add-b c =
     let k = s.keyed (follows_key _ _ c.requires.1 c.if-new_key.false) in
     omega (arith, k.last.head_inside, s.totals.used)
 
-pub u32_at-requires : goal.u32_at-requires
-u32_at-requires c =
+pub read-requires : goal.read-requires
+read-requires c =
     let s = stood _ _ c.requires.0 in
     let k = s.keyed (follows_key _ _ c.requires.1 c.if-new_key.false) in
     omega (arith, k.last.head_inside, s.inside)
 
 pub returns : goal.returns
 unfolding area_versions
-returns c = ap (λ (n : ℕ). n + 1) c.u32_at.ensures ∙ sym (if_false _ _ _ c.if-new_key.false)
+returns c = ap (λ (n : ℕ). n + 1) c.read.ensures ∙ sym (if_false _ _ _ c.if-new_key.false)

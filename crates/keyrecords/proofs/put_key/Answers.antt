@@ -1,79 +1,23 @@
-use mathlib.Core.Path.{ap}
-use Prim.Native.Nat.{ℕ, ◌+◌, ◌*◌, ◌-◌}
-use native.Mathlib.Omega.{arith}
-use borrow.Author.Rules.{rules}
+use Rattle.std.proofs.Common.{◌≡◌, ℕ, ◌+◌, ◌-◌, ◌*◌, List, length, drop, refl, ap, ◌∙◌, arith, length-drop}
+use Rattle.std.proofs.lemmas.List.Edits.{sets}
+use lib.Seq.{take_all}
+use Rattle.num.proofs.Copy.{copied}
 use Rattle.encoding.specs.Encoding.{version_len_of}
-use Rattle.area.specs.Area.{area_key_len, area_versions, first_version_at}
 use Rattle.keyrecords.specs.Internal.{key_record_size}
-use Rattle.keyrecords.proofs.Records.{stand_there, record_parts}
+use Rattle.keyrecords.proofs.Records.{key_length, record_parts}
 use Rattle.keyrecords.proofs.put_key.Goals as goal
 
-pub overflow_add-suffix : goal.overflow_add-suffix
-unfolding first_version_at area_key_len area_versions key_record_size
-overflow_add-suffix c = search rules
-
-pub overflow_add-suffix-2 : goal.overflow_add-suffix-2
-unfolding first_version_at area_key_len area_versions key_record_size
-overflow_add-suffix-2 c = search rules
-
-pub u32_at-requires : goal.u32_at-requires
-unfolding first_version_at area_key_len area_versions key_record_size
-u32_at-requires c = search rules
-
-pub overflow_sub-suffix_len : goal.overflow_sub-suffix_len
-unfolding first_version_at area_key_len area_versions key_record_size
-overflow_sub-suffix_len c = search rules
-
-pub overflow_add-head : goal.overflow_add-head
-unfolding first_version_at area_key_len area_versions key_record_size
-overflow_add-head c = search rules
-
-pub u32_at-versions-requires : goal.u32_at-versions-requires
-unfolding first_version_at area_key_len area_versions key_record_size
-u32_at-versions-requires c = search rules
-
-pub overflow_add-place : goal.overflow_add-place
-unfolding first_version_at area_key_len area_versions key_record_size
-overflow_add-place c = search rules
-
-pub put_key_header-requires : goal.put_key_header-requires
-unfolding first_version_at area_key_len area_versions key_record_size
-put_key_header-requires c = search rules
-
-pub put_part-requires : goal.put_part-requires
-unfolding first_version_at area_key_len area_versions key_record_size
-put_part-requires c = search rules
-
-pub overflow_add-place-2 : goal.overflow_add-place-2
-unfolding first_version_at area_key_len area_versions key_record_size
-overflow_add-place-2 c = search rules
-
-pub overflow_add-suffix-3 : goal.overflow_add-suffix-3
-unfolding first_version_at area_key_len area_versions key_record_size
-overflow_add-suffix-3 c = search rules
-
-pub put_versions-requires : goal.put_versions-requires
-unfolding first_version_at area_key_len area_versions key_record_size
-put_versions-requires c =
-    let a = c.args in
-    let p = c.requires in
-    let n = c.u32_at.ensures in
-    let v = c.u32_at-versions.ensures in
-    let k = c.key_header.ensures in
-    let w = ap (λ (m : ℕ). m * version_len_of a.e) v in
-    record { widths = (p.widths.0, stand_there a.area.now a.head a.least _ _ (omega arith) v p.widths.1); e_in_bounds = omega (arith, c.put_part.auto.output, c.put_key_header.auto.output, p.shared_in_bounds) }
-
-pub returns : goal.returns
-unfolding first_version_at area_key_len area_versions key_record_size
-returns c =
-    let a = c.args in
-    let p = c.requires in
-    let n = c.u32_at.ensures in
-    let v = c.u32_at-versions.ensures in
-    let k = c.key_header.ensures in
-    let w = ap (λ (m : ℕ). m * version_len_of a.e) v in record {
-      output_after = record_parts a.e a.least a.area.now a.output.now c.put_key_header.new.output c.put_part.new.output c.put_versions.new.output a.head a.anchor a.shared a.at (a.at + c.key_header.result) (c.u32_at.result - a.shared) c.u32_at-versions.result
-          p.widths.2 (omega (arith, p.widths.1.inside)) (omega arith) v (omega arith)
-          c.put_key_header.ensures c.put_part.ensures c.put_versions.ensures.output_after;
-      value = omega (arith, c.put_versions.ensures.value);
-    }
+pub returns-clause-output_after : goal.returns-clause-output_after
+unfolding key_record_size
+returns-clause-output_after c =
+    let k = c.args.key in
+    let key = c.bytes.result.now in
+    let v = ap (λ (n : ℕ). n * version_len_of c.args.e) c.versions-versions.ensures in
+    let place = c.args.at + c.key_header.result in
+    let suffix = c.copy_from_slice.ensures.after ∙ take_all (length key - c.args.shared) (drop c.args.shared key) (omega (arith, length-drop c.args.shared key)) in
+    let n : length c.copy_from_slice.new.self ≡ place + (c.len.result - c.args.shared) - place = omega (arith, ap (λ (l : List ℕ). length l) suffix, length-drop c.args.shared key, ap (λ (l : List ℕ). length l) c.bytes.ensures, key_length k.area.now k.head k.inside, c.len.ensures) in
+    let part = copied _ c.copy_from_slice.new.self place (place + (c.len.result - c.args.shared) - place)
+    (omega (arith, c.put_key_header.auto.output, c.requires.shared_in_bounds, c.len.ensures, c.key_header.ensures)) n in
+    record_parts _ _ k.area.now key _ _ _ _ k.head _ _ _ _ _ _ _ _ k.inside (ap (λ (n : ℕ). n - c.args.shared) c.len.ensures) c.versions-versions.ensures
+    (ap (λ (n : ℕ). c.args.at + n) c.key_header.ensures) refl c.bytes.ensures c.first.ensures c.put_key_header.ensures
+    (part ∙ ap (sets c.put_key_header.new.output place) suffix) c.put_versions.ensures.output_after

@@ -22,12 +22,15 @@ overflow_add-at c =
     let w = widths_le c.args.e p.fits.widths in
     omega (arith, c.key_header-header.ensures, address_small p c.loop-i.invariant c.loop-i-test.true)
 
-pub shared_len-shared-requires : goal.shared_len-shared-requires
-shared_len-shared-requires c =
+pub invariant_of-key : goal.invariant_of-key
+invariant_of-key c = record { inside = first_now c.requires c.loop-i.invariant c.loop-i-test.true }
+
+pub invariant_of-shared_len : goal.invariant_of-shared_len
+invariant_of-shared_len c =
     let p = c.requires in
     let st = c.loop-i.invariant in
     let l = c.loop-i-test.true in
-    (anchor_inside p st l _ (anchor_now p st l _ c.anchored-anchor.ensures), first_now p st l)
+    record { inside = anchor_inside p st l _ (anchor_now p st l _ c.anchored-anchor.ensures) }
 
 pub overflow_cast-addresses : goal.overflow_cast-addresses
 overflow_cast-addresses c =
@@ -44,8 +47,8 @@ put_key-at-requires c =
     let s = shared_now p st l _ _ (anchor_now p st l _ c.anchored-anchor.ensures) c.shared_len-shared.ensures in
     record { widths = (p.fits.widths, stands_now p st l, shared_small p st l _ s); shared_in_bounds = record_room p st l _ s }
 
-pub next_head-head-requires : goal.next_head-head-requires
-next_head-head-requires c =
+pub end-head-requires : goal.end-head-requires
+end-head-requires c =
     head_inside c.requires c.loop-i.invariant c.loop-i-test.true
 
 pub loop-i-preserved : goal.loop-i-preserved
@@ -56,7 +59,7 @@ loop-i-preserved c =
     let k = anchor_now p st l _ c.anchored-anchor.ensures in
     let s = shared_now p st l _ _ k c.shared_len-shared.ensures in
     let f = suffix_now p st l _ _ (ap (λ (n : ℕ). c.loop-i.at + n) c.key_header-header.ensures) c.anchored-anchor_address.ensures in
-    writing_turn p st l _ s _ _ _ _ c.put_key-at.new.output k f c.put_key-at.ensures.value c.next_head-head.ensures c.put_key-at.auto.output c.put_key-at.ensures.output_after
+    writing_turn p st l _ s _ _ _ _ c.put_key-at.new.output k f c.put_key-at.ensures.value c.end-head.ensures c.put_key-at.auto.output c.put_key-at.ensures.output_after
 
 pub returns : goal.returns
 returns c =

@@ -1,4 +1,3 @@
-use Prim.Native.Nat.{◌-◌}
 use Rattle.keyrecords.proofs.Arena.{Writing}
 use Rattle.keyrecords.proofs.write_arena.Given as goal
 
@@ -6,6 +5,3 @@ use Rattle.keyrecords.proofs.write_arena.Given as goal
 -- Assumes nothing.
 abbrev pub invariant-loop-i : goal.invariant-loop-i
 invariant-loop-i l = Writing l.area l.count l.e l.least l.initial.addresses l.initial.output l.anchor l.anchor_address l.head l.at l.i l.addresses l.output
-
-abbrev pub decreases-loop-i : goal.decreases-loop-i
-decreases-loop-i l = l.count - l.i

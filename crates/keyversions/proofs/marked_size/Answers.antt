@@ -21,12 +21,12 @@ pub returns-then-area-place-eq-TOMBSTONE : goal.returns-then-area-place-eq-TOMBS
 unfolding marked_size stored_at area_kind area_size
 returns-then-area-place-eq-TOMBSTONE c =
     let a = c.args in
-    ap₂ ◌+◌ c.tombstone.ensures c.u32_at-size.ensures
+    ap₂ ◌+◌ c.tombstone.ensures c.read-size.ensures
     ∙ ap (λ (k : Kind). marked_size a.e k (area_size a.area.now a.place)) (sym (if_true (eqb (area_kind a.area.now a.place) 2) Tombstone Put (eq-eqb _ _ c.if-area-place-eq-TOMBSTONE.true)))
 
-pub returns : goal.returns
+pub returns-else-area-place-eq-TOMBSTONE : goal.returns-else-area-place-eq-TOMBSTONE
 unfolding marked_size stored_at area_kind area_size
-returns c =
+returns-else-area-place-eq-TOMBSTONE c =
     let a = c.args in
-    c.u32_at-size.ensures
+    c.read-size.ensures
     ∙ ap (λ (k : Kind). marked_size a.e k (area_size a.area.now a.place)) (sym (if_false (eqb (area_kind a.area.now a.place) 2) Tombstone Put (ne_eqb _ _ c.if-area-place-eq-TOMBSTONE.false)))

@@ -9,8 +9,8 @@ use Rattle.written.specs.Arena.{checksum_fields}
 use Rattle.keyversions.proofs.Fields.{fields_none, fields_one}
 use Rattle.keyversions.proofs.put_checksum.Goals as goal
 
-pub put_uint-requires : goal.put_uint-requires
-put_uint-requires c =
+pub write-requires : goal.write-requires
+write-requires c =
     let a = c.args in
     omega (arith, if_true {A = ℕ} a.present 4 0 c.if-present.true)
 
@@ -18,7 +18,7 @@ pub returns-then-present : goal.returns-then-present
 unfolding checksum_fields
 returns-then-present c =
     let a = c.args in
-    fields_one _ _ _ _ _ c.put_uint.ensures ∙ ap (λ (t : Bool). sets a.output.now a.at (fields_bytes (checksum_fields t a.checksum))) (sym c.if-present.true)
+    fields_one _ _ _ _ _ c.write.ensures ∙ ap (λ (t : Bool). sets a.output.now a.at (fields_bytes (checksum_fields t a.checksum))) (sym c.if-present.true)
 
 pub returns-else-present : goal.returns-else-present
 unfolding checksum_fields

@@ -38,6 +38,6 @@ unfolding stored_at area_offset area_checksum
 returns c =
     let a = c.args in
     version_parts a.e a.least (stored_at a.area.now a.place) a.output.now c.put_uint.new.out c.put_uint-2.new.out c.put_uint-3.new.out c.put_checksum.new.output a.at
-    c.u64_at.result c.marked_size.result c.u64_at-2.result c.u32_at-crc.result
-    c.u64_at.ensures c.marked_size.ensures c.u64_at-2.ensures c.u32_at-crc.ensures
+    c.read.result c.marked_size.result c.read-2.result c.read-crc.result
+    c.read.ensures c.marked_size.ensures c.read-2.ensures c.read-crc.ensures
     c.put_uint.ensures c.put_uint-2.ensures c.put_uint-3.ensures c.put_checksum.ensures

@@ -3,7 +3,6 @@ use Prim.Native.Nat.{ℕ, ◌+◌, ◌*◌}
 use native.Mathlib.Nat.{zero-mul, add-zero, add-mul}
 use native.Mathlib.Omega.{arith}
 use lib.Seq.{sets}
-use borrow.Author.Rules.{rules}
 use Rattle.num.proofs.Parts.{entry_inside}
 use Rattle.encoding.specs.Encoding.{version_len_of}
 use Rattle.keyversions.proofs.Versions.{version_piece, versions_written, versions_start_lem, versions_turn, versions_done}
@@ -12,7 +11,7 @@ use Rattle.keyversions.proofs.put_versions.Goals as goal
 pub loop-j-init : goal.loop-j-init
 loop-j-init c =
     let a = c.args in
-    (search rules, refl, simp (zero-mul, add-zero), versions_start_lem a.e a.least a.area.now a.first a.output.now a.at)
+    (refl, simp (zero-mul, add-zero), versions_start_lem a.e a.least a.area.now a.first a.output.now a.at)
 
 pub put_stored-requires : goal.put_stored-requires
 put_stored-requires c =
@@ -34,14 +33,13 @@ unfolding version_piece
 loop-j-preserved c =
     let l = c.loop-j in
     let a = c.args in (
-      search rules,
-      c.put_stored.auto.output ∙ l.invariant.1,
+      c.put_stored.auto.output ∙ l.invariant.0,
       omega (arith, c.version-size.ensures, add-mul l.j 1 (version_len_of a.e)),
-      versions_turn a.e a.least a.area.now a.first a.output.now l.output c.put_stored.new.output a.at l.end l.j (sym l.invariant.2) l.invariant.3 c.put_stored.ensures,
+      versions_turn a.e a.least a.area.now a.first a.output.now l.output c.put_stored.new.output a.at l.end l.j (sym l.invariant.1) l.invariant.2 c.put_stored.ensures,
     )
 
 pub returns : goal.returns
 returns c =
     let l = c.loop-j in
     let a = c.args in
-    let e : l.j ≡ a.count = omega arith in record { output_after = l.invariant.3 ∙ ap (λ (n : ℕ). sets a.output.now a.at (versions_written a.e a.least a.area.now a.first n)) e ∙ ap (sets a.output.now a.at) (versions_done a.e a.least a.area.now a.first a.count); value = l.invariant.2 ∙ ap (λ (n : ℕ). a.at + n * version_len_of a.e) e }
+    let e : l.j ≡ a.count = omega arith in record { output_after = l.invariant.2 ∙ ap (λ (n : ℕ). sets a.output.now a.at (versions_written a.e a.least a.area.now a.first n)) e ∙ ap (sets a.output.now a.at) (versions_done a.e a.least a.area.now a.first a.count); value = l.invariant.1 ∙ ap (λ (n : ℕ). a.at + n * version_len_of a.e) e }

@@ -1,5 +1,5 @@
 use mathlib.Core.Path.{◌≡◌}
-use Prim.Native.Nat.{◌+◌, ◌*◌, ◌-◌, ◌≤◌}
+use Prim.Native.Nat.{◌+◌, ◌*◌}
 use lib.ListN.{length}
 use lib.Seq.{sets}
 use Rattle.encoding.specs.Encoding.{version_len_of}
@@ -9,7 +9,4 @@ use Rattle.keyversions.proofs.put_versions.Given as goal
 -- The loop's invariant: the versions before version j are written, and `end` is behind them.
 -- Assumes nothing.
 abbrev pub invariant-loop-j : goal.invariant-loop-j
-invariant-loop-j l = (l.j ≤ l.count) × (length l.output ≡ length l.initial.output) × (l.end ≡ l.at + l.j * version_len_of l.e) × (l.output ≡ sets l.initial.output l.at (versions_written l.e l.least l.area l.first l.j))
-
-abbrev pub decreases-loop-j : goal.decreases-loop-j
-decreases-loop-j l = l.count - l.j
+invariant-loop-j l = (length l.output ≡ length l.initial.output) × (l.end ≡ l.at + l.j * version_len_of l.e) × (l.output ≡ sets l.initial.output l.at (versions_written l.e l.least l.area l.first l.j))

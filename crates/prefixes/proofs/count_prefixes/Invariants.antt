@@ -1,9 +1,5 @@
-use Prim.Native.Nat.{◌-◌}
 use Rattle.prefixes.proofs.Counting.{Counting}
 use Rattle.prefixes.proofs.count_prefixes.Given as goal
 
 abbrev pub invariant-loop-k : goal.invariant-loop-k
-invariant-loop-k l = Counting l.area l.count l.prefix l.prefixes l.head l.k
-
-abbrev pub decreases-loop-k : goal.decreases-loop-k
-decreases-loop-k l = l.count - l.k
+invariant-loop-k l = Counting l.area l.count l.prefix l.prefixes l.head l._k

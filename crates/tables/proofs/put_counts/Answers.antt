@@ -1,10 +1,13 @@
+use Rattle.std.proofs.Common.{◌≡◌, ℕ, List, length, refl, ap, ◌∙◌}
+use Rattle.std.proofs.lemmas.List.Edits.{sets}
+use Rattle.num.proofs.Copy.{copied}
 use Prim.Native.Nat.{◌+◌, ◌*◌, ◌^◌, ◌≤◌}
 use native.Mathlib.Nat.{mul-le-mul}
 use native.Mathlib.Omega.{arith}
 use Rattle.encoding.specs.Encoding.{magic, buckets_of, arena_start_of}
 use Rattle.encoding.proofs.Widths.{widths_le}
 use Rattle.tables.specs.Internal.{count_fields}
-use Rattle.tables.proofs.Stores.{field_last, field_more, magic_first, magic_bytes}
+use Rattle.tables.proofs.Stores.{field_last, field_more, magic_first}
 use Rattle.tables.proofs.put_counts.Goals as goal
 
 pub overflow_add-arena-2 : goal.overflow_add-arena-2
@@ -40,8 +43,12 @@ overflow_add-arena-3 c =
 pub returns : goal.returns
 unfolding magic count_fields buckets_of arena_start_of
 returns c =
-    magic_first _ _ _ magic (count_fields c.args.e c.args.seed c.args.count) _ magic_bytes c.u64_at.ensures c.put_uint.ensures
-    (field_more _ _ _ _ _ _ _ _ (omega arith) c.put_uint-2.ensures
-    (field_more _ _ _ _ _ _ _ _ (omega arith) c.put_uint-3.ensures
-    (field_more _ _ _ _ _ _ _ _ (omega arith) c.put_uint-4.ensures
-    (field_last _ _ _ _ _ c.put_uint-5.ensures))))
+    let part = c.copy_from_slice in
+    let n : length part.new.self ≡ 8 = ap (λ (l : List ℕ). length l) part.ensures.after in
+    let r = c.requires.room in
+    magic_first _ _ _ magic (count_fields c.args.e c.args.seed c.args.count) refl
+    (copied c.args.output.now part.new.self 0 8 (omega arith) n ∙ ap (sets c.args.output.now 0) part.ensures.after)
+    (field_more _ _ _ _ _ _ _ _ (omega arith) c.write.ensures
+    (field_more _ _ _ _ _ _ _ _ (omega arith) c.write-2.ensures
+    (field_more _ _ _ _ _ _ _ _ (omega arith) c.write-3.ensures
+    (field_last _ _ _ _ _ c.write-4.ensures))))

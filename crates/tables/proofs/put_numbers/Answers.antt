@@ -3,7 +3,6 @@ use Prim.Native.Nat.{ℕ}
 use native.Mathlib.Omega.{arith}
 use lib.ListN.{length, get_or}
 use lib.Seq.{sets}
-use borrow.Author.Rules.{rules}
 use Rattle.num.specs.Number.{le_bytes}
 use Rattle.num.proofs.Number.{length_le_bytes}
 use Rattle.num.proofs.Parts.{entry_inside}
@@ -13,7 +12,7 @@ use Rattle.tables.proofs.Stores.{pieces_none, pieces_more}
 use Rattle.tables.proofs.put_numbers.Goals as goal
 
 pub loop-i-init : goal.loop-i-init
-loop-i-init c = (search rules, refl, pieces_none _ _ (λ k. length_le_bytes _ _) _ _)
+loop-i-init c = (refl, pieces_none _ _ (λ k. length_le_bytes _ _) _ _)
 
 pub overflow_mul-i : goal.overflow_mul-i
 overflow_mul-i c =
@@ -25,9 +24,6 @@ overflow_add-at c =
     let a = c.args in
     omega (arith, entry_inside c.loop-i.i (length a.numbers.now) a.width c.loop-i-test.true, c.requires)
 
-pub overflow_cast-numbers : goal.overflow_cast-numbers
-overflow_cast-numbers c = omega (arith, c.type_inv.numbers c.loop-i.i)
-
 pub put_uint-requires : goal.put_uint-requires
 put_uint-requires c =
     let a = c.args in
@@ -38,7 +34,7 @@ loop-i-preserved c =
     let l = c.loop-i in
     let a = c.args in
     let p = c.put_uint in
-    (search rules, p.auto.out ∙ l.invariant.1, pieces_more (λ k. le_bytes a.width (get_or a.numbers.now k 0)) a.width (λ k. length_le_bytes a.width (get_or a.numbers.now k 0)) _ _ _ _ l.i _ refl l.invariant.2 p.ensures)
+    (p.auto.out ∙ l.invariant.0, pieces_more (λ k. le_bytes a.width (get_or a.numbers.now k 0)) a.width (λ k. length_le_bytes a.width (get_or a.numbers.now k 0)) _ _ _ _ l.i _ refl l.invariant.1 p.ensures)
 
 pub returns : goal.returns
 unfolding numbers_bytes
@@ -46,4 +42,4 @@ returns c =
     let l = c.loop-i in
     let a = c.args in
     let n : l.i ≡ length a.numbers.now = omega arith in
-    l.invariant.2 ∙ ap (λ (k : ℕ). sets a.output.now a.at (joined (λ j. le_bytes a.width (get_or a.numbers.now j 0)) k)) n
+    l.invariant.1 ∙ ap (λ (k : ℕ). sets a.output.now a.at (joined (λ j. le_bytes a.width (get_or a.numbers.now j 0)) k)) n

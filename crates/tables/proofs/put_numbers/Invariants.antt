@@ -1,5 +1,4 @@
 use mathlib.Core.Path.{◌≡◌}
-use Prim.Native.Nat.{◌-◌, ◌≤◌}
 use lib.ListN.{length, get_or}
 use lib.Seq.{sets}
 use Rattle.num.specs.Number.{le_bytes}
@@ -7,7 +6,4 @@ use Rattle.written.specs.Joined.{joined}
 use Rattle.tables.proofs.put_numbers.Given as goal
 
 abbrev pub invariant-loop-i : goal.invariant-loop-i
-invariant-loop-i l = (l.i ≤ length l.numbers) × (length l.output ≡ length l.initial.output) × (l.output ≡ sets l.initial.output l.at (joined (λ k. le_bytes l.width (get_or l.numbers k 0)) l.i))
-
-abbrev pub decreases-loop-i : goal.decreases-loop-i
-decreases-loop-i l = length l.numbers - l.i
+invariant-loop-i l = (length l.output ≡ length l.initial.output) × (l.output ≡ sets l.initial.output l.at (joined (λ k. le_bytes l.width (get_or l.numbers k 0)) l.i))

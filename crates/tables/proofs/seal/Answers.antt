@@ -7,11 +7,11 @@ use Rattle.tables.proofs.seal.Goals as goal
 pub slice_bounds-crc32-end : goal.slice_bounds-crc32-end
 slice_bounds-crc32-end c = simp length-set (omega arith)
 
-pub put_uint-requires : goal.put_uint-requires
-put_uint-requires c = simp length-set (omega arith)
+pub write-requires : goal.write-requires
+write-requires c = simp length-set (omega arith)
 
 pub shape_of-output : goal.shape_of-output
-shape_of-output c = let a = c.args in c.put_uint.auto.out ∙ length-set a.output.now a.body 0
+shape_of-output c = let a = c.args in c.write.auto.out ∙ length-set a.output.now a.body 0
 
 pub returns : goal.returns
-returns c = let a = c.args in sealed a.output.now _ a.body _ (omega arith) c.crc32-crc.ensures c.put_uint.ensures
+returns c = let a = c.args in sealed a.output.now _ a.body _ (omega arith) c.crc32-crc.ensures c.write.ensures

@@ -4,7 +4,6 @@ use native.Mathlib.Nat.{zero-add}
 use native.Mathlib.Omega.{arith}
 use lib.ListN.{length, get_or}
 use lib.Seq.{sets}
-use borrow.Author.Rules.{rules}
 use Rattle.num.specs.Number.{le_bytes}
 use Rattle.num.proofs.Parts.{entry_inside}
 use Rattle.written.specs.Joined.{joined, fields_bytes}
@@ -14,7 +13,7 @@ use Rattle.tables.proofs.Stores.{field_last, field_more, pieces_none, pieces_mor
 use Rattle.tables.proofs.write_slots.Goals as goal
 
 pub loop-m-init : goal.loop-m-init
-loop-m-init c = (search rules, refl, pieces_none _ _ (λ k. slot_size _ _ _ _) _ _)
+loop-m-init c = (refl, pieces_none _ _ (λ k. slot_size _ _ _ _) _ _)
 
 pub overflow_add-at : goal.overflow_add-at
 overflow_add-at c =
@@ -26,17 +25,11 @@ overflow_mul-at c =
     let a = c.args in
     omega (arith, entry_inside c.loop-m.m (length a.slots.now) (a.e.address + 2) c.loop-m-test.true, c.requires.room)
 
-pub overflow_cast-key : goal.overflow_cast-key
-overflow_cast-key c = omega (arith, c.type_inv.slots c.loop-m.m)
-
 pub offset_bounds-addresses-key : goal.offset_bounds-addresses-key
 offset_bounds-addresses-key c = let i = c.requires.addressed c.loop-m.m c.loop-m-test.true in omega arith
 
 pub bounds-addresses-key : goal.bounds-addresses-key
 bounds-addresses-key c = c.requires.addressed c.loop-m.m c.loop-m-test.true
-
-pub overflow_cast-addresses : goal.overflow_cast-addresses
-overflow_cast-addresses c = omega (arith, c.type_inv.addresses (get_or c.args.slots.now c.loop-m.m 0))
 
 pub put_uint-requires : goal.put_uint-requires
 put_uint-requires c =
@@ -54,8 +47,8 @@ offset_bounds-hashes-key c = let i = c.requires.hashed c.loop-m.m c.loop-m-test.
 pub bounds-hashes-key : goal.bounds-hashes-key
 bounds-hashes-key c = c.requires.hashed c.loop-m.m c.loop-m-test.true
 
-pub put_uint-requires-in-loop-m : goal.put_uint-requires-in-loop-m
-put_uint-requires-in-loop-m c =
+pub write-requires : goal.write-requires
+write-requires c =
     let a = c.args in
     omega (arith, entry_inside c.loop-m.m (length a.slots.now) (a.e.address + 2) c.loop-m-test.true, c.requires.room, c.put_uint.auto.out)
 
@@ -65,11 +58,10 @@ loop-m-preserved c =
     let l = c.loop-m in
     let a = c.args in
     let p = c.put_uint in
-    let q = c.put_uint-in-loop-m in
+    let q = c.write in
     let f = q.ensures ∙ ap (λ (n : ℕ). sets p.new.out (l.m * (a.e.address + 2) + a.e.address) (le_bytes 2 n)) c.fingerprint.ensures in (
-      search rules,
-      q.auto.out ∙ p.auto.out ∙ l.invariant.1,
-      pieces_more (λ j. fields_bytes (listed_slot a.e.address a.addresses.now a.hashes.now (get_or a.slots.now j 0))) (a.e.address + 2) (λ j. slot_size a.e.address a.addresses.now a.hashes.now (get_or a.slots.now j 0)) a.output.now 0 l.output q.new.out l.m _ (zero-add _) l.invariant.2
+      q.auto.out ∙ p.auto.out ∙ l.invariant.0,
+      pieces_more (λ j. fields_bytes (listed_slot a.e.address a.addresses.now a.hashes.now (get_or a.slots.now j 0))) (a.e.address + 2) (λ j. slot_size a.e.address a.addresses.now a.hashes.now (get_or a.slots.now j 0)) a.output.now 0 l.output q.new.out l.m _ (zero-add _) l.invariant.1
           (field_more _ _ _ _ _ _ _ _ refl p.ensures (field_last _ _ _ _ _ f)),
     )
 
@@ -79,4 +71,4 @@ returns c =
     let l = c.loop-m in
     let a = c.args in
     let n : l.m ≡ length a.slots.now = omega arith in
-    l.invariant.2 ∙ ap (λ (k : ℕ). sets a.output.now 0 (joined (λ j. fields_bytes (listed_slot a.e.address a.addresses.now a.hashes.now (get_or a.slots.now j 0))) k)) n
+    l.invariant.1 ∙ ap (λ (k : ℕ). sets a.output.now 0 (joined (λ j. fields_bytes (listed_slot a.e.address a.addresses.now a.hashes.now (get_or a.slots.now j 0))) k)) n
