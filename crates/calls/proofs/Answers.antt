@@ -7,15 +7,15 @@ use native.Mathlib.Omega.{arith}
 use lib.Dec.{eqb}
 use lib.ListN.{length}
 use lib.Seq.{sets, length-sets, take_all}
+use Rattle.std.specs.Prelude.{Some, None, Ok, Err}
 use Rattle.num.proofs.Lists.{part_sets_same}
+use Rattle.refusal.specs.Refusal.{answer_number}
 use Rattle.sstable.specs.declared.Kind.{Kind}
 use Rattle.sstable.specs.declared.Kind.TheVariants.{Put, Tombstone}
 use Rattle.sstable.specs.Kind.{kind_number}
 use Rattle.header.specs.declared.Opened.{Opened}
 use Rattle.locator.specs.declared.ValueLocator.{ValueLocator}
-use Rattle.locator.specs.declared.Located.{Located}
-use Rattle.locator.specs.declared.Located.TheVariants.{Found, Missing, Refused}
-use Rattle.locator.specs.Locator.{located_number}
+use Rattle.locator.specs.Locator.{Located}
 use Rattle.lookup.specs.Lookup.{locate_of}
 use Rattle.locating.specs.Store.{LinkerStore, Store, Version, Holds, store_versions, Within}
 use Rattle.locating.specs.Looks.{lookup, NoneWithin, Greatest, Answers, Looks}
@@ -83,7 +83,7 @@ module _ (h : Holding) (o : Opened) (x : HoldsStore h o) where
 
   -- the six numbers of what answers a version
   numbers_version : (v : Version) (l : ValueLocator) → Answers (store_held h o) v l → IsVersion h (answer_numbers l) v
-  unfolding answer_numbers store_held kind_number
+  unfolding answer_numbers store_held
   numbers_version v l a =
       record {
         found = refl;
@@ -106,21 +106,21 @@ module _ (h : Holding) (o : Opened) (x : HoldsStore h o) where
         ∙ looked_up h.bytes (record_numbers o) key limit o (locate_of h.bytes o key limit) (record_is o) (sym (record_read o)) refl
 
     module _ (r : Located) (e : lookup (store_held h o) key limit ≡ r) where
-      call-result : c.result ≡ located_number r
-      call-result = c.returns ∙ ap located_number (call-looks ∙ e)
+      call-result : c.result ≡ answer_number r
+      call-result = c.returns ∙ ap answer_number (call-looks ∙ e)
 
       call-after : c.after ≡ answer_written r c.before
       call-after = c.leaves ∙ ap (λ (q : Located). answer_written q c.before) (call-looks ∙ e)
 
-    missing-after : lookup (store_held h o) key limit ≡ Missing → c.after ≡ six_zeros
+    missing-after : lookup (store_held h o) key limit ≡ Ok None → c.after ≡ six_zeros
     unfolding answer_written
-    missing-after e = call-after Missing e ∙ all_written c.before six_zeros c.six
+    missing-after e = call-after (Ok None) e ∙ all_written c.before six_zeros c.six
 
-    found-version : (l : ValueLocator) → lookup (store_held h o) key limit ≡ Found l → (v : Version) → Answers (store_held h o) v l
+    found-version : (l : ValueLocator) → lookup (store_held h o) key limit ≡ Ok (Some l) → (v : Version) → Answers (store_held h o) v l
         → IsVersion h c.after v
     unfolding answer_written answer_numbers
     found-version l e v a =
-        subst (λ (n : List ℕ). IsVersion h n v) (sym (call-after (Found l) e ∙ all_written c.before (answer_numbers l) c.six))
+        subst (λ (n : List ℕ). IsVersion h n v) (sym (call-after (Ok (Some l)) e ∙ all_written c.before (answer_numbers l) c.six))
         (numbers_version v l a)
 
     -- an answer for a version is not the answer for none
@@ -128,31 +128,31 @@ module _ (h : Holding) (o : Opened) (x : HoldsStore h o) where
     version-some v a e = let z : ◌≡◌ {A = ℕ} 0 1 = sym (ap (λ (n : List ℕ). place n 0) e) ∙ a.found in omega arith
 
     pub call_looked_up : Looks (store_held h o) key limit → LookedUp h key limit c
-    unfolding located_number
+    unfolding answer_number
     call_looked_up p = go (lookup (store_held h o) key limit) refl
       where
         finds : (v : Version) → Greatest (blocks_held h) key limit v → IsVersion h c.after v
         finds v g = let f = p.finds v (greatest_held h o key limit v g) in found-version f.0 f.1 v f.2
 
         go : (r : Located) → lookup (store_held h o) key limit ≡ r → LookedUp h key limit c
-        go Missing e =
+        go (Ok None) e =
             record {
-              result = call-result Missing e;
+              result = call-result (Ok None) e;
               none = (λ _. held_none h o key limit (p.none.0 e), λ _. missing-after e);
               found = λ n. absurd (n (missing-after e));
               finds = finds;
             }
-        go (Found l) e =
+        go (Ok (Some l)) e =
             let f = p.found l e in
             let a = found-version l e f.0 f.2 in
             let g = held_greatest h o key limit f.0 f.1 in
             record {
-              result = call-result (Found l) e;
+              result = call-result (Ok (Some l)) e;
               none = (λ z. absurd (version-some f.0 a z), λ n. missing-after (p.none.1 (none_held h o key limit n)));
               found = λ _. (f.0, (g, a));
               finds = finds;
             }
-        go (Refused n) e = absurd (p.never n e)
+        go (Err n) e = absurd (p.never n e)
 
 -- ---- two answers
 
@@ -175,11 +175,11 @@ version_same h i v x y p q =
 module _ (h i : Holding) (o p : Opened) (x : HoldsStore h o) (y : HoldsStore i p) (key : List ℕ) (limit : ℕ) where
   pub calls_alike : LinkSame (store_held h o) (store_held i p) key limit → (c : LookupCall h key limit) (d : LookupCall i key limit)
       → LinkedAlike h i key limit c d
-  unfolding located_number
+  unfolding answer_number
   calls_alike (none_alike m n e f) c d =
       record {
-        first = call-result h o x key limit c Missing e;
-        second = call-result i p y key limit d Missing f;
+        first = call-result h o x key limit c (Ok None) e;
+        second = call-result i p y key limit d (Ok None) f;
         answers =
             both_none (held_none h o key limit m) (held_none i p key limit n) (missing-after h o x key limit c e) (missing-after i p y key limit d f);
       }
@@ -187,8 +187,8 @@ module _ (h i : Holding) (o p : Opened) (x : HoldsStore h o) (y : HoldsStore i p
       let q = found-version h o x key limit c l e v a in
       let r = found-version i p y key limit d m f v b in
       record {
-        first = call-result h o x key limit c (Found l) e;
-        second = call-result i p y key limit d (Found m) f;
+        first = call-result h o x key limit c (Ok (Some l)) e;
+        second = call-result i p y key limit d (Ok (Some m)) f;
         answers =
             both_version v (held_greatest h o key limit v g) (held_greatest i p key limit v w) q r (version_same h i v c.after d.after q r);
       }

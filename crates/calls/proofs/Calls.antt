@@ -8,11 +8,10 @@ use native.Mathlib.Nat.{zero-add}
 use native.Mathlib.Omega.{arith}
 use lib.ListN.{length, take, drop}
 use lib.Seq.{sets}
-use Rattle.num.specs.Answer.{Answer}
+use Rattle.std.specs.Prelude.{Result, Ok}
 use Rattle.num.proofs.Lists.{part_sets_same, standing_next, standing_sets}
+use Rattle.refusal.specs.declared.Refusal.{Refusal}
 use Rattle.header.specs.declared.Opened.{Opened}
-use Rattle.header.specs.declared.HeaderRead.{HeaderRead}
-use Rattle.header.specs.declared.HeaderRead.TheVariants.{Accepted}
 use Rattle.packing.specs.Packing.{PackedForm, packed_as, packed_written}
 use Rattle.header.specs.Header.{packed_record}
 use Rattle.packed.specs.Packed.{packed_bytes}
@@ -35,7 +34,7 @@ use Rattle.calls.proofs.Records.{plain_record_places, packed_record_places, pack
 use Rattle.calls.proofs.Answers.{store_held, HoldsStore, same_held, call_looked_up, calls_alike}
 
 -- P2 of what a call was lent
-open_exact : (l : Lent) (o : Opened) → (opens l ≡ Accepted o) ↔ Admits l.section l.backing l.blocks l.scratch o
+open_exact : (l : Lent) (o : Opened) → (opens l ≡ Ok o) ↔ Admits l.section l.backing l.blocks l.scratch o
 unfolding OpensExactly
 open_exact l = open_exactly l.section l.backing l.blocks l.scratch
 
@@ -45,7 +44,7 @@ unfolding PacksExactly
 pack_exact l = open_packed_exactly l.section l.backing l.blocks l.scratch
 
 -- its result is 0 exactly if it is accepted
-open_zero : (c : OpenCall) → (c.result ≡ 0) ↔ ((o : Opened) × (opens c.lent ≡ Accepted o))
+open_zero : (c : OpenCall) → (c.result ≡ 0) ↔ ((o : Opened) × (opens c.lent ≡ Ok o))
 unfolding OpensNumbered
 open_zero c =
     let z = (opens_numbered c.lent.section c.lent.backing c.lent.blocks c.lent.scratch).zero in
@@ -58,9 +57,9 @@ pack_zero c =
     (λ e. z.0 (sym c.returns ∙ e), λ a. c.returns ∙ z.1 a)
 
 -- what a plain opening that accepted leaves
-plain_left : (c : OpenCall) (o : Opened) → opens c.lent ≡ Accepted o → c.after ≡ record_numbers o
+plain_left : (c : OpenCall) (o : Opened) → opens c.lent ≡ Ok o → c.after ≡ record_numbers o
 unfolding record_written
-plain_left c o e = c.leaves ∙ ap (λ (r : HeaderRead). record_written r c.before) e ∙ record_stands c.before o c.sixteen
+plain_left c o e = c.leaves ∙ ap (λ (r : Result Opened Refusal). record_written r c.before) e ∙ record_stands c.before o c.sixteen
 
 -- what a packed one leaves
 record PackedLeft (c : PackCall) (opened : Opened) (bytes : List ℕ) : Type 0 where
@@ -78,9 +77,9 @@ packed_left c p bytes e =
     record {
       from = f;
       inside = omega (arith, ap length f.same_bytes, packed_size_lem c.lent.section f.plain f.admits.admits.header);
-      numbers = c.leaves ∙ ap (λ (x : Answer PackedForm). packed_record_written x c.before) e ∙ record_stands c.before p c.sixteen;
-      output = c.leaves_output ∙ ap (λ (x : Answer PackedForm). packed_written x c.output) e;
-      len = c.leaves_len ∙ ap (λ (x : Answer PackedForm). packed_len_written x c.len) e;
+      numbers = c.leaves ∙ ap (λ (x : Result PackedForm Refusal). packed_record_written x c.before) e ∙ record_stands c.before p c.sixteen;
+      output = c.leaves_output ∙ ap (λ (x : Result PackedForm Refusal). packed_written x c.output) e;
+      len = c.leaves_len ∙ ap (λ (x : Result PackedForm Refusal). packed_len_written x c.len) e;
     }
 
 module _ (c : PackCall) (p : Opened) (bytes : List ℕ) (x : PackedLeft c p bytes) where

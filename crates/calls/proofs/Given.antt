@@ -6,9 +6,9 @@ use mathlib.Core.List.{List}
 use Prim.Native.Nat.{ℕ}
 use borrow.Author.Tests.{leb-true, le-leb, eqb-true, eq-eqb}
 use Rattle.num.proofs.Choice.{both_true, true_both, if_true, if_false}
+use Rattle.refusal.specs.Refusal.{answer_number}
 use Rattle.opened.specs.Opened.{is_record_of, RecordExactly}
 use Rattle.opened.proofs.Records.{record_exactly}
-use Rattle.locator.specs.Locator.{located_number}
 use Rattle.point.specs.Hash.{hash_value}
 use Rattle.lookup.specs.Lookup.{hash_read, locate_of}
 use Rattle.numbers.specs.Numbers.{opened_of, is_record_numbers}
@@ -45,20 +45,20 @@ bytes_pass h g = (record_exactly h.bytes (opened_of h.numbers)).1 g.given
 
 module _ (h : Holding) (key : List ℕ) (limit : ℕ) where
   number : ℕ
-  number = located_number (lookup_of h.bytes h.numbers key limit)
+  number = answer_number (lookup_of h.bytes h.numbers key limit)
 
   -- behind both tests come the reads
-  read_number : GivesRecord h → number ≡ located_number (hash_read h.bytes (opened_of h.numbers) key limit (hash_value key (opened_of h.numbers).seed))
+  read_number : GivesRecord h → number ≡ answer_number (hash_read h.bytes (opened_of h.numbers) key limit (hash_value key (opened_of h.numbers).seed))
   unfolding number lookup_of locate_of
-  read_number g = ap located_number (if_true _ _ _ (numbers_pass h g) ∙ if_true _ _ _ (bytes_pass h g))
+  read_number g = ap answer_number (if_true _ _ _ (numbers_pass h g) ∙ if_true _ _ _ (bytes_pass h g))
 
   refused_number : (GivesRecord h → ⊥) → number ≡ 24
-  unfolding number lookup_of locate_of located_number
+  unfolding number lookup_of locate_of answer_number
   refused_number n = go (is_record_numbers h.numbers) (is_record_of h.bytes (opened_of h.numbers)) refl refl
     where
       go : (a b : Bool) → is_record_numbers h.numbers ≡ a → is_record_of h.bytes (opened_of h.numbers) ≡ b → number ≡ 24
-      go false b p q = ap located_number (if_false _ _ _ p)
-      go true false p q = ap located_number (if_true _ _ _ p ∙ if_false _ _ _ q)
+      go false b p q = ap answer_number (if_false _ _ _ p)
+      go true false p q = ap answer_number (if_true _ _ _ p ∙ if_false _ _ _ q)
       go true true p q = absurd (n (passed h p q))
 
 pub record_calls : RecordCalls

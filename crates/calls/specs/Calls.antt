@@ -1,20 +1,19 @@
 -- The demands, said of the entries that are called (include/kiban.h): of their results, of the sixteen numbers of a record, and of the six
 -- of an answer. A call is what its entry was lent, its result and what it left, in the words of its contract (crates/kiban/src/lib.rt).
-use Rattle.std.specs.Prelude.{◌≡◌, ◌↔◌, List, [], ◌∷◌, ℕ, ◌+◌, ◌*◌, ◌-◌, ◌/◌, ◌%◌, ◌≤◌, eqb, length, get_or, take, drop}
-use Rattle.num.specs.Answer.{Answer}
+use Rattle.std.specs.Prelude.{◌≡◌, ◌↔◌, List, [], ◌∷◌, ℕ, ◌+◌, ◌*◌, ◌-◌, ◌/◌, ◌%◌, ◌≤◌, eqb, length, get_or, take, drop, Result}
 use Rattle.num.specs.Choice.{when◌then◌else◌}
 use Rattle.num.specs.Number.{le_at}
+use Rattle.refusal.specs.Refusal.{answer_number}
+use Rattle.refusal.specs.declared.Refusal.{Refusal}
 use Rattle.crc32.specs.V42.{crc_of}
 use Rattle.sstable.specs.declared.Kind.TheVariants.{Put, Tombstone}
 use Rattle.header.specs.declared.Opened.{Opened}
-use Rattle.header.specs.declared.HeaderRead.{HeaderRead}
-use Rattle.header.specs.Header.{header_number, packed_record}
+use Rattle.header.specs.Header.{packed_record}
 use Rattle.header.specs.Facts.{IsRecord}
 use Rattle.opening.specs.Open.{open_of}
-use Rattle.packing.specs.Packing.{PackedForm, open_packed_of, packed_read, packed_number, packed_written}
+use Rattle.packing.specs.Packing.{PackedForm, open_packed_of, packed_read, packed_written}
 use Rattle.admission.specs.Layout.{PackedLayout}
 use Rattle.admission.specs.Admits.{Admits, AdmitsPacked}
-use Rattle.locator.specs.Locator.{located_number}
 use Rattle.lookup.specs.Value.{value_number, value_part}
 use Rattle.locating.specs.Store.{LinkerStore, Version}
 use Rattle.locating.specs.Looks.{NoneWithin, Greatest}
@@ -37,11 +36,11 @@ pub record Lent : Type 0 where
   pub scratch : ℕ
 
 -- what the plain opening answers
-abbrev pub opens : Lent → HeaderRead
+abbrev pub opens : Lent → Result Opened Refusal
 opens lent = open_of lent.section lent.backing lent.blocks lent.scratch
 
 -- what the packed opening answers, with an output of a length
-abbrev pub packs : Lent → ℕ → Answer PackedForm
+abbrev pub packs : Lent → ℕ → Result PackedForm Refusal
 packs lent room = open_packed_of lent.section lent.backing lent.blocks lent.scratch room
 
 -- a call of `kiban_open`, with any sixteen numbers in its places before
@@ -51,7 +50,7 @@ pub record OpenCall : Type 0 where
   pub sixteen : length before ≡ 16
   pub result : ℕ
   pub after : List ℕ
-  pub returns : result ≡ header_number (opens lent)
+  pub returns : result ≡ answer_number (opens lent)
   pub leaves : after ≡ record_written (opens lent) before
 
 -- a call of `kiban_open_packed`, with any output, any sixteen numbers and any length before
@@ -65,7 +64,7 @@ pub record PackCall : Type 0 where
   pub output_after : List ℕ
   pub after : List ℕ
   pub len_after : ℕ
-  pub returns : result ≡ packed_number (packed_read (packs lent (length output)))
+  pub returns : result ≡ answer_number (packed_read (packs lent (length output)))
   pub leaves_output : output_after ≡ packed_written (packs lent (length output)) output
   pub leaves : after ≡ packed_record_written (packs lent (length output)) before
   pub leaves_len : len_after ≡ packed_len_written (packs lent (length output)) len
@@ -99,7 +98,7 @@ pub record LookupCall (h : Holding) (key : List ℕ) (limit : ℕ) : Type 0 wher
   pub six : length before ≡ 6
   pub result : ℕ
   pub after : List ℕ
-  pub returns : result ≡ located_number (lookup_of h.bytes h.numbers key limit)
+  pub returns : result ≡ answer_number (lookup_of h.bytes h.numbers key limit)
   pub leaves : after ≡ answer_written (lookup_of h.bytes h.numbers key limit) before
 
 -- ---- what the openings accept

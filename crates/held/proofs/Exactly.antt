@@ -14,8 +14,9 @@ use Rattle.num.specs.Number.{le_at}
 use Rattle.num.proofs.Choice.{both_true, true_both, false_true, one_of-case, if_true, if_false, same_truth, second_either}
 use Rattle.encoding.specs.Encoding.{Widths, trailer_len}
 use Rattle.header.specs.declared.Opened.{Opened}
-use Rattle.header.specs.declared.HeaderRead.{HeaderRead}
-use Rattle.header.specs.declared.HeaderRead.TheVariants.{Accepted, Refused}
+use Rattle.std.specs.Prelude.{Result, Ok, Err}
+use Rattle.refusal.specs.declared.Refusal.{Refusal}
+use Rattle.refusal.specs.declared.Refusal.TheVariants as refusal
 use Rattle.header.specs.Header.{begins, allowed_widths, scan_place_of, scan_part, scan_settings, with_scan, scanned_of}
 use Rattle.header.specs.Facts.{Numbers, Dimensions, Scan, Header, PackedHeader, IsRecord, from_plain, from_packed}
 use Rattle.header.proofs.Questions.{begins_yes, yes_begins, widths_yes, yes_widths, scan_yes, yes_scan, scan_place}
@@ -140,7 +141,7 @@ unfolding scanned_of scan_holds with_scan when◌then◌else◌
 held_scan s o t = go (scan_part s o) (scan_settings s (scan_place_of s o) o.count) refl refl t
   where
     go : (p q : Bool) → scan_part s o ≡ p → scan_settings s (scan_place_of s o) o.count ≡ q
-        → scan_holds (when◌then◌else◌ p (when◌then◌else◌ q (Accepted (with_scan o (scan_place_of s o))) (Refused 6)) (Refused 5)) o.scan ≡ true → Scan s o
+        → scan_holds (when◌then◌else◌ p (when◌then◌else◌ q (Ok (with_scan o (scan_place_of s o))) (Err refusal.ScanSettings)) (Err refusal.ScanPart)) o.scan ≡ true → Scan s o
     go true true p q e = subst (λ (n : ℕ). Scan s (with_scan o n)) (eqb-true (scan_place_of s o) o.scan e) (scan_yes s o p q)
     go true false p q e = false_true e
     go false q p h e = false_true e
@@ -149,7 +150,7 @@ scan_held : (s : List ℕ) (o : Opened) → Scan s o → scan_holds (scanned_of 
 unfolding scanned_of scan_holds with_scan
 scan_held s o k =
     let y = yes_scan s o k in
-    ap (λ (h : HeaderRead). scan_holds h o.scan) (if_true _ _ _ y.0 ∙ if_true _ _ _ y.1) ∙ eq-eqb (scan_place_of s o) o.scan (scan_place s o k)
+    ap (λ (h : Result Opened Refusal). scan_holds h o.scan) (if_true _ _ _ y.0 ∙ if_true _ _ _ y.1) ∙ eq-eqb (scan_place_of s o) o.scan (scan_place s o k)
 
 -- ---- flags and scan place of a record that is not packed
 

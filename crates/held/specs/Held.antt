@@ -1,10 +1,10 @@
 -- Question 24 of sixteen numbers, test by test as code asks it: one of a record that is packed, one of another.
-use Rattle.std.specs.Prelude.{ℕ, ◌+◌, ◌*◌, ◌-◌, ◌/◌, ◌^◌, ◌≡◌, List, Bool, false, eqb, ltb, length, get_or}
+use Rattle.std.specs.Prelude.{ℕ, ◌+◌, ◌*◌, ◌-◌, ◌/◌, ◌^◌, ◌≡◌, List, Bool, false, Result, Ok, Err, eqb, ltb, length, get_or}
 use Rattle.num.specs.Choice.{when◌then◌else◌, both, either}
 use Rattle.num.specs.Number.{le_at}
 use Rattle.encoding.specs.Encoding.{header_len, trailer_len}
-use Rattle.header.specs.declared.HeaderRead.{HeaderRead}
-use Rattle.header.specs.declared.HeaderRead.TheVariants.{Accepted, Refused}
+use Rattle.refusal.specs.declared.Refusal.{Refusal}
+use Rattle.header.specs.declared.Opened.{Opened}
 use Rattle.header.specs.Header.{begins, allowed_widths, scanned_of}
 use Rattle.opened.specs.Opened.{is_record_of}
 use Rattle.numbers.specs.Numbers.{opened_of, is_record_numbers}
@@ -51,9 +51,9 @@ unfoldable pub starts_at : List ℕ → List ℕ → ℕ → ℕ → Bool
 starts_at s r own stored = both (eqb (get_or r 4 0) own) (both (eqb (le_at s 24 8) stored) (ltb own (length s - trailer_len)))
 
 -- questions 5 and 6, and the scan place that the section gives
-unfoldable pub scan_holds : HeaderRead → ℕ → Bool
-scan_holds (Accepted o) scan = eqb o.scan scan
-scan_holds (Refused n) scan = false
+unfoldable pub scan_holds : Result Opened Refusal → ℕ → Bool
+scan_holds (Ok o) scan = eqb o.scan scan
+scan_holds (Err e) scan = false
 
 -- 24 of a record that is not packed, behind 3 and the tests above: arena start, flags, and with a scan place the scan part
 unfoldable pub plain_holds : List ℕ → List ℕ → Bool

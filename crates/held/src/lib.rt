@@ -1,5 +1,6 @@
 // Question 24 of sixteen numbers, before a record is made of them: every lookup asks it. Tests that need no other are joined by `&`, which
-// leaves few branches.
+// leaves few branches. It stays beside `opened::is_record`, which asks the same of a record, for speed alone: a lookup that finds nothing takes 224
+// instructions, many of them these (docs/PERFORMANCE.md).
 #![tactic(auto)]
 
 ghost use Rattle.std.specs.Prelude.{◌≡◌, true, ◌+◌, ◌^◌, ◌≤◌, ◌<◌, length, get_or};
@@ -11,7 +12,7 @@ ghost use Rattle.numbers.specs.Numbers.{opened_of, is_record_numbers};
 ghost use Rattle.held.specs.Held.{says, widths_say, widths_hold, header_says, counts_fit, plain_arena, packed_arena, starts_at, scan_holds, plain_holds, packed_holds};
 
 use encoding::Encoding;
-use header::HeaderRead;
+use num::LittleEndian;
 
 // Has the header this number in the four bytes at a place? The number is known to be so short: it is compared without widening the bytes.
 pub fn says(section: &[u8], place: usize, number: u64) -> bool
@@ -19,7 +20,7 @@ pub fn says(section: &[u8], place: usize, number: u64) -> bool
     requires number_bound { number < 2 ^ 32 }
     ensures { result ≡ says section.now place number }
 {
-    num::u32_at(section, place) == number as u32
+    u32::read(section, place) == number as u32
 }
 
 fn widths_say(section: &[u8], numbers: &[u64; 16]) -> bool
@@ -52,8 +53,8 @@ fn header_says(section: &[u8], numbers: &[u64; 16]) -> bool
     requires numbers_value { counts_fit numbers.now ≡ true }
     ensures { result ≡ header_says section.now numbers.now }
 {
-    (num::u64_at(section, 8) == numbers[0])
-        & ((num::u64_at(section, 56) == numbers[1])
+    (u64::read(section, 8) == numbers[0])
+        & ((u64::read(section, 56) == numbers[1])
             & (says(section, 16, numbers[2]) & says(section, 20, numbers[3])))
 }
 
@@ -89,8 +90,7 @@ fn starts_at(section: &[u8], numbers: &[u64; 16], own: u64, stored: u64) -> bool
     ensures { result ≡ starts_at section.now numbers.now own stored }
 {
     (numbers[4] == own)
-        & ((num::u64_at(section, 24) == stored)
-            & (own < (section.len() - Encoding::TRAILER) as u64))
+        & ((u64::read(section, 24) == stored) & (own < (section.len() - Encoding::TRAILER) as u64))
 }
 
 // Questions 5 and 6, and the scan place that the section gives.
@@ -100,10 +100,9 @@ fn scan_holds(section: &[u8], numbers: &[u64; 16]) -> bool
     ensures { result ≡ scan_holds (scanned_of section.now (opened_of numbers.now)) (get_or numbers.now 11 0) }
 {
     let o = numbers::read_record(numbers);
-    let read = header::scanned(section, o);
-    match read {
-        HeaderRead::Accepted(whole) => whole.scan as u64 == numbers[11],
-        HeaderRead::Refused(_) => false,
+    match header::scanned(section, o) {
+        Ok(whole) => whole.scan as u64 == numbers[11],
+        Err(_) => false,
     }
 }
 

@@ -4,8 +4,8 @@ use mathlib.Core.Path.{◌≡◌, refl, sym, ◌∙◌}
 use mathlib.Core.List.{List}
 use Prim.Native.Nat.{ℕ}
 use Rattle.locator.specs.declared.ValueLocator.{ValueLocator}
-use Rattle.locator.specs.declared.Located.{Located}
-use Rattle.locator.specs.declared.Located.TheVariants.{Found, Missing, Refused}
+use Rattle.locator.specs.Locator.{Located}
+use Rattle.std.specs.Prelude.{Some, None, Ok, Err}
 use Rattle.locating.specs.Store.{LinkerStore, Version, Within}
 use Rattle.locating.specs.Looks.{lookup, NoneWithin, Greatest, Answers, Looks, LooksExactly}
 use Rattle.locating.proofs.Accepted.{lookup_exactly}
@@ -45,13 +45,13 @@ looks_same : (a b : LinkerStore) (key : List ℕ) (limit : ℕ) → Looks a key 
 looks_same a b key limit p q s = go (lookup a key limit) refl
   where
     go : (r : Located) → lookup a key limit ≡ r → LinkSame a b key limit
-    go Missing e = let n = p.none.0 e in let k = none_there a b key limit s n in none_alike n k e (q.none.1 k)
-    go (Found l) e =
+    go (Ok None) e = let n = p.none.0 e in let k = none_there a b key limit s n in none_alike n k e (q.none.1 k)
+    go (Ok (Some l)) e =
         let x = p.found l e in
         let g = greatest_there a b key limit s x.0 x.1 in
         let y = q.finds x.0 g in
         found_alike x.0 l y.0 x.1 g e x.2 y.1 y.2 (answers_alike a b x.0 l y.0 x.2 y.2)
-    go (Refused n) e = absurd (p.never n e)
+    go (Err n) e = absurd (p.never n e)
 
 -- any two linkers, plain or packed, whose stores hold the same versions of a key within a limit link the same thing (P5)
 pub two_linkers : TwoLinkers

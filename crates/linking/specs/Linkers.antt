@@ -1,7 +1,7 @@
 -- Two linkers that link the same thing (demand 3, first half; promise P5).
 use Rattle.std.specs.Prelude.{◌≡◌, true, List, ℕ, ◌≤◌}
 use Rattle.locator.specs.declared.ValueLocator.{ValueLocator}
-use Rattle.locator.specs.declared.Located.TheVariants.{Found, Missing}
+use Rattle.std.specs.Prelude.{Some, None, Ok}
 use Rattle.lookup.specs.Value.{value_part}
 use Rattle.locating.specs.Store.{LinkerStore, Store, Version, Holds}
 use Rattle.locating.specs.Looks.{lookup, NoneWithin, Greatest, Answers}
@@ -22,9 +22,9 @@ pub record Alike (a b : LinkerStore) (l m : ValueLocator) : Type 0 where
 -- both linkers find none, where neither store holds a version of the key within the limit, or both find the one of greatest sequence,
 -- and their answers are alike
 pub data LinkSame (a b : LinkerStore) (key : List ℕ) (limit : ℕ) : Type 0 where
-  none_alike : NoneWithin a key limit → NoneWithin b key limit → lookup a key limit ≡ Missing → lookup b key limit ≡ Missing → LinkSame a b key limit
+  none_alike : NoneWithin a key limit → NoneWithin b key limit → lookup a key limit ≡ Ok None → lookup b key limit ≡ Ok None → LinkSame a b key limit
   found_alike : (v : Version) (l m : ValueLocator) → Greatest a key limit v → Greatest b key limit v
-      → lookup a key limit ≡ Found l → Answers a v l → lookup b key limit ≡ Found m → Answers b v m
+      → lookup a key limit ≡ Ok (Some l) → Answers a v l → lookup b key limit ≡ Ok (Some m) → Answers b v m
       → Alike a b l m → LinkSame a b key limit
 
 -- promise P5: any two accepted stores, each plain or packed, that hold the same versions of a key within a limit link the same thing

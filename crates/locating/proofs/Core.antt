@@ -12,9 +12,10 @@ use Rattle.num.proofs.Order.{equal_bytes-true, equal_bytes-same}
 use Rattle.num.proofs.Steps.{first_or_later}
 use Rattle.agreement.specs.Keys.{version_count, key_at, version_place, version_seq}
 use Rattle.admission.specs.Blocks.{store_entries}
+use Rattle.refusal.specs.declared.Refusal.{Refusal}
 use Rattle.locator.specs.declared.ValueLocator.{ValueLocator}
-use Rattle.locator.specs.declared.Located.{Located}
-use Rattle.locator.specs.declared.Located.TheVariants.{Found, Missing, Refused}
+use Rattle.locator.specs.Locator.{Located}
+use Rattle.std.specs.Prelude.{Some, None, Ok, Err}
 use Rattle.locator.specs.Locator.{locator_at, versions_from}
 use Rattle.locating.specs.Store.{LinkerStore, Version, Within}
 use Rattle.locating.specs.Looks.{lookup, NoneWithin, Greatest, Answers, Looks}
@@ -25,20 +26,20 @@ use Rattle.locating.proofs.Versions.{Answered, none, first, FirstWithin, answere
 
 -- a lookup misses, and nothing is within the limit, or it meets the greatest version
 data Outcome (t : LinkerStore) (key : List ℕ) (limit : ℕ) : Type 0 where
-  missed : lookup t key limit ≡ Missing → NoneWithin t key limit → Outcome t key limit
-  met : (v : Version) (l : ValueLocator) → lookup t key limit ≡ Found l → Greatest t key limit v → Answers t v l → Outcome t key limit
+  missed : lookup t key limit ≡ Ok None → NoneWithin t key limit → Outcome t key limit
+  met : (v : Version) (l : ValueLocator) → lookup t key limit ≡ Ok (Some l) → Greatest t key limit v → Answers t v l → Outcome t key limit
 
 -- the three answers are different, and what is found is one
-missing_found : (r : Located) (l : ValueLocator) → r ≡ Missing → r ≡ Found l → ⊥
+missing_found : (r : Located) (l : ValueLocator) → r ≡ Ok None → r ≡ Ok (Some l) → ⊥
 missing_found r l e f = let z : ◌≡◌ {A = ℕ} 0 1 = cc in omega arith
 
-missing_refused : (r : Located) (n : ℕ) → r ≡ Missing → r ≡ Refused n → ⊥
+missing_refused : (r : Located) (n : Refusal) → r ≡ Ok None → r ≡ Err n → ⊥
 missing_refused r n e f = let z : ◌≡◌ {A = ℕ} 0 1 = cc in omega arith
 
-found_refused : (r : Located) (l : ValueLocator) (n : ℕ) → r ≡ Found l → r ≡ Refused n → ⊥
+found_refused : (r : Located) (l : ValueLocator) (n : Refusal) → r ≡ Ok (Some l) → r ≡ Err n → ⊥
 found_refused r l n e f = let z : ◌≡◌ {A = ℕ} 0 1 = cc in omega arith
 
-found_same : (r : Located) (l m : ValueLocator) → r ≡ Found l → r ≡ Found m → l ≡ m
+found_same : (r : Located) (l m : ValueLocator) → r ≡ Ok (Some l) → r ≡ Ok (Some m) → l ≡ m
 found_same r l m e f = cc
 
 module _ (t : LinkerStore) (x : Indexed t.bytes t.opened t.backing (store_entries t.backing t.blocks)) where

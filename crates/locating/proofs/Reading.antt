@@ -18,8 +18,9 @@ use Rattle.header.specs.declared.Opened.{Opened}
 use Rattle.arena.specs.declared.KeyHeader.{KeyHeader}
 use Rattle.arena.specs.Key.{key_header_at}
 use Rattle.agreement.specs.Keys.{key_header_size, key_header_in, address_of, key_header_of, version_count, suffix_place, key_at, key_hash, version_place}
-use Rattle.locator.specs.declared.Located.{Located}
-use Rattle.locator.specs.declared.Located.TheVariants.{Missing, Refused}
+use Rattle.locator.specs.Locator.{Located}
+use Rattle.std.specs.Prelude.{None, Ok, Err}
+use Rattle.refusal.specs.declared.Refusal.TheVariants as refusal
 use Rattle.num.specs.Choice.{when◌then◌else◌}
 use Rattle.lookup.specs.Lookup.{pilot_len, pilot_of, slot_len, slot_offset, key_record_of, key_record_at, slot_read_of, hash_read, locate_of}
 use Rattle.locator.specs.Locator.{readable, versions_from}
@@ -27,9 +28,9 @@ use Rattle.num.proofs.Counting.{all_taken}
 use Rattle.locating.proofs.Indexed.{Indexed}
 
 -- a read inside goes on
-pub reads : (s : List ℕ) (place bytes : ℕ) (next : Located) → place + bytes ≤ length s → (when readable s place bytes then next else Refused 25) ≡ next
+pub reads : (s : List ℕ) (place bytes : ℕ) (next : Located) → place + bytes ≤ length s → (when readable s place bytes then next else Err refusal.Read) ≡ next
 unfolding readable
-reads s place bytes next h = if_true _ next (Refused 25) (le-leb _ _ h)
+reads s place bytes next h = if_true _ next (Err refusal.Read) (le-leb _ _ h)
 
 -- a list is its beginning and its rest
 joined : (key p q : List ℕ) (n : ℕ) → take n key ≡ p → drop n key ≡ q → key ≡ p ++ q
@@ -55,12 +56,12 @@ module _ (s : List ℕ) (o : Opened) (key : List ℕ) (limit pos : ℕ) (h : Key
 
   -- of another key nothing is found
   record_other : (key ≡ take h.shared (drop (o.arena + h.anchor) s) ++ take h.suffix_len (drop (pos + key_header_len_of o.encoding) s) → ⊥)
-      → key_record_of s o key limit pos h ≡ Missing
+      → key_record_of s o key limit pos h ≡ Ok None
   unfolding key_record_of
   record_other n =
-      if_case (λ (r : Located). r ≡ Missing) _ _ _
-      (λ _. reads s _ _ _ a ∙ if_case (λ (r : Located). r ≡ Missing) _ _ _
-      (λ e. reads s _ _ _ b ∙ if_case (λ (r : Located). r ≡ Missing) _ _ _
+      if_case (λ (r : Located). r ≡ Ok None) _ _ _
+      (λ _. reads s _ _ _ a ∙ if_case (λ (r : Located). r ≡ Ok None) _ _ _
+      (λ e. reads s _ _ _ b ∙ if_case (λ (r : Located). r ≡ Ok None) _ _ _
       (λ f. absurd (n (joined key _ _ h.shared (equal_bytes-true _ _ e) (equal_bytes-true _ _ f)))) (λ _. refl))
       (λ _. refl))
       (λ _. refl)
@@ -122,7 +123,7 @@ module _ (s : List ℕ) (o : Opened) («data» : List ℕ) (es : List Entry) (x 
       ∙ ap (λ (p : ℕ). versions_from (version_count s o k) s o p limit) (first_place k)
 
   -- and any other key nothing
-  key_other : (k : ℕ) → k < o.count → (key : List ℕ) (limit : ℕ) → (key ≡ key_at s o k → ⊥) → key_record_at s o key limit (o.arena + address_of s o k) ≡ Missing
+  key_other : (k : ℕ) → k < o.count → (key : List ℕ) (limit : ℕ) → (key ≡ key_at s o k → ⊥) → key_record_at s o key limit (o.arena + address_of s o k) ≡ Ok None
   unfolding key_record_at key_header_of key_header_in key_header_at key_header_len_of key_header_size
   key_other k h key limit n =
       reads s _ _ _ (x.header_inside k h)
@@ -139,11 +140,11 @@ module _ (s : List ℕ) (o : Opened) («data» : List ℕ) (es : List Entry) (x 
 
   -- and any other key to nothing
   slot_other : (k : ℕ) → k < o.count → (key : List ℕ) (limit g : ℕ) → (key ≡ key_at s o k → ⊥)
-      → slot_read_of s o key limit g (slot_offset s o (key_hash s o k)) ≡ Missing
+      → slot_read_of s o key limit g (slot_offset s o (key_hash s o k)) ≡ Ok None
   unfolding slot_read_of key_hash
   slot_other k h key limit g n =
       reads s _ _ _ (x.slot_inside (key_hash s o k))
-      ∙ if_case (λ (r : Located). r ≡ Missing) _ _ _
+      ∙ if_case (λ (r : Located). r ≡ Ok None) _ _ _
       (λ _. ap (λ (a : ℕ). key_record_at s o key limit (o.arena + a)) (x.slot_address k h) ∙ key_other k h key limit n)
       (λ _. refl)
 
@@ -159,7 +160,7 @@ module _ (s : List ℕ) (o : Opened) («data» : List ℕ) (es : List Entry) (x 
   located_own k h limit = slot_met (key_at s o k) limit ∙ slot_own k h limit ∙ key_own k h limit
 
   -- of another key nothing is found
-  pub located_other : (key : List ℕ) (limit : ℕ) → ((k : ℕ) → k < o.count → key ≡ key_at s o k → ⊥) → locate_of s o key limit ≡ Missing
+  pub located_other : (key : List ℕ) (limit : ℕ) → ((k : ℕ) → k < o.count → key ≡ key_at s o k → ⊥) → locate_of s o key limit ≡ Ok None
   located_other key limit n =
       let w = slot_taken (hash_value key o.seed) in
       slot_met key limit

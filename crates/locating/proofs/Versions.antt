@@ -23,8 +23,9 @@ use Rattle.agreement.proofs.Same.{version_size_is, seq_is, kind_is, length_is, o
 use Rattle.agreement.proofs.Laws.{member_index, index_member}
 use Rattle.admission.specs.Blocks.{store_entries}
 use Rattle.admission.proofs.Stored.{StoredEntry}
-use Rattle.locator.specs.declared.Located.{Located}
-use Rattle.locator.specs.declared.Located.TheVariants.{Found, Missing, Refused}
+use Rattle.locator.specs.Locator.{Located}
+use Rattle.std.specs.Prelude.{Some, None, Ok, Err}
+use Rattle.refusal.specs.declared.Refusal.TheVariants as refusal
 use Rattle.num.specs.Choice.{when◌then◌else◌}
 use Rattle.locator.specs.Locator.{readable, locator_at, versions_from}
 use Rattle.lookup.specs.Value.{value_inside_of, value_part, value_number}
@@ -37,7 +38,7 @@ use Rattle.locating.proofs.Reading.{reads}
 
 -- what the two tests of a version lead to
 unfoldable tested : Located → Located → Bool → Bool → Located
-tested met passed inside within = elim inside [ true ↦ elim within [ true ↦ met | false ↦ passed ] | false ↦ Refused 25 ]
+tested met passed inside within = elim inside [ true ↦ elim within [ true ↦ met | false ↦ passed ] | false ↦ Err refusal.Read ]
 
 module _ (s : List ℕ) (o : Opened) (pos limit count : ℕ) (r : pos + version_len_of o.encoding ≤ length s) (b : stored_seq s o pos < 2 ^ 64) where
   -- its sequence lies in the section, and is below 2^64
@@ -47,16 +48,16 @@ module _ (s : List ℕ) (o : Opened) (pos limit count : ℕ) (r : pos + version_
 
   -- so the limit decides
   version_decided : (within : Bool) → leb (stored_seq s o pos) limit ≡ within → versions_from (suc count) s o pos limit
-      ≡ tested (when readable s pos (version_len_of o.encoding) then Found (locator_at s o pos) else Refused 25) (versions_from count s o (pos + version_len_of o.encoding) limit) true within
+      ≡ tested (when readable s pos (version_len_of o.encoding) then Ok (Some (locator_at s o pos)) else Err refusal.Read) (versions_from count s o (pos + version_len_of o.encoding) limit) true within
   unfolding versions_from tested
   version_decided within e =
-      ap₂ (tested (when readable s pos (version_len_of o.encoding) then Found (locator_at s o pos) else Refused 25) (versions_from count s o (pos + version_len_of o.encoding) limit))
+      ap₂ (tested (when readable s pos (version_len_of o.encoding) then Ok (Some (locator_at s o pos)) else Err refusal.Read) (versions_from count s o (pos + version_len_of o.encoding) limit))
       version_asked e
 
   -- within the limit it is answered
-  version_met : stored_seq s o pos ≤ limit → versions_from (suc count) s o pos limit ≡ Found (locator_at s o pos)
+  version_met : stored_seq s o pos ≤ limit → versions_from (suc count) s o pos limit ≡ Ok (Some (locator_at s o pos))
   unfolding tested
-  version_met h = version_decided true (le-leb _ _ h) ∙ reads s pos (version_len_of o.encoding) (Found (locator_at s o pos)) r
+  version_met h = version_decided true (le-leb _ _ h) ∙ reads s pos (version_len_of o.encoding) (Ok (Some (locator_at s o pos))) r
 
   -- above it it is passed
   version_passed : limit < stored_seq s o pos → versions_from (suc count) s o pos limit ≡ versions_from count s o (pos + version_len_of o.encoding) limit
@@ -71,8 +72,8 @@ pub record FirstWithin (s : List ℕ) (o : Opened) (k limit from i : ℕ) : Type
 
 -- the answer of the versions of key k from one on
 pub data Answered (s : List ℕ) (o : Opened) (k limit from : ℕ) (answer : Located) : Type 0 where
-  none : ((m : ℕ) → from ≤ m → m < version_count s o k → limit < version_seq s o k m) → answer ≡ Missing → Answered s o k limit from answer
-  first : (i : ℕ) → FirstWithin s o k limit from i → answer ≡ Found (locator_at s o (version_place s o k i)) → Answered s o k limit from answer
+  none : ((m : ℕ) → from ≤ m → m < version_count s o k → limit < version_seq s o k m) → answer ≡ Ok None → Answered s o k limit from answer
+  first : (i : ℕ) → FirstWithin s o k limit from i → answer ≡ Ok (Some (locator_at s o (version_place s o k i))) → Answered s o k limit from answer
 
 -- a version is followed by the next
 next_place : (s : List ℕ) (o : Opened) (k j : ℕ) → version_place s o k j + version_len_of o.encoding ≡ version_place s o k (suc j)

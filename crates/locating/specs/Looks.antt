@@ -1,9 +1,10 @@
 -- What a lookup gives, in plain terms (promise P3).
 use Rattle.std.specs.Prelude.{◌≡◌, ◌↔◌, true, false, List, ℕ, ◌≤◌, length}
 use Rattle.crc32.specs.V42.{crc_of}
+use Rattle.refusal.specs.declared.Refusal.{Refusal}
 use Rattle.locator.specs.declared.ValueLocator.{ValueLocator}
-use Rattle.locator.specs.declared.Located.{Located}
-use Rattle.locator.specs.declared.Located.TheVariants.{Found, Missing, Refused}
+use Rattle.locator.specs.Locator.{Located}
+use Rattle.std.specs.Prelude.{Some, None, Ok, Err}
 use Rattle.lookup.specs.Lookup.{locate_of}
 use Rattle.lookup.specs.Value.{value_part, value_number}
 use Rattle.locating.specs.Store.{LinkerStore, Store, Version, Within}
@@ -35,13 +36,13 @@ pub record Answers (t : LinkerStore) (v : Version) (l : ValueLocator) : Type 0 w
 -- what a lookup of a key under a limit promises
 pub record Looks (t : LinkerStore) (key : List ℕ) (limit : ℕ) : Type 0 where
   -- none exactly if no version of the key is within the limit
-  pub none : (lookup t key limit ≡ Missing) ↔ NoneWithin t key limit
+  pub none : (lookup t key limit ≡ Ok None) ↔ NoneWithin t key limit
   -- what it finds is the version of greatest sequence
-  pub found : (l : ValueLocator) → lookup t key limit ≡ Found l → (v : Version) × Greatest t key limit v × Answers t v l
+  pub found : (l : ValueLocator) → lookup t key limit ≡ Ok (Some l) → (v : Version) × Greatest t key limit v × Answers t v l
   -- and that version, where there is one, is found
-  pub finds : (v : Version) → Greatest t key limit v → (l : ValueLocator) × (lookup t key limit ≡ Found l) × Answers t v l
+  pub finds : (v : Version) → Greatest t key limit v → (l : ValueLocator) × (lookup t key limit ≡ Ok (Some l)) × Answers t v l
   -- 24 and 25 do not occur
-  pub never : (n : ℕ) → lookup t key limit ≡ Refused n → ⊥
+  pub never : (n : Refusal) → lookup t key limit ≡ Err n → ⊥
 
 -- promise P3: every lookup in an accepted store, plain or packed, promises this
 unfoldable pub LooksExactly : Type 0

@@ -5,7 +5,7 @@ use mathlib.Core.List.{List, Memᴰ, map}
 use Rattle.sstable.specs.declared.Kind.{Kind}
 use Rattle.block.specs.Walk.{Entry}
 use Rattle.header.specs.declared.Opened.{Opened}
-use Rattle.header.specs.declared.HeaderRead.TheVariants.{Accepted}
+use Rattle.std.specs.Prelude.{Ok}
 use Rattle.validate.specs.Walk.{value_of}
 use Rattle.opening.specs.Open.{open_of}
 use Rattle.packing.specs.Packing.{packed_as, open_packed_of}
@@ -20,7 +20,7 @@ pub record LinkerStore : Type 0 where
 
 -- an accepted store: the plain opening accepted these bytes, or the packed opening a section, which it wrote as these bytes
 pub data Store (t : LinkerStore) : Type 0 where
-  plain_opening : (scratch : ℕ) → open_of t.bytes t.backing t.blocks scratch ≡ Accepted t.opened → Store t
+  plain_opening : (scratch : ℕ) → open_of t.bytes t.backing t.blocks scratch ≡ Ok t.opened → Store t
   packed_opening : (section : List ℕ) (scratch room : ℕ) → open_packed_of section t.backing t.blocks scratch room ≡ packed_as t.opened t.bytes
       → Store t
 

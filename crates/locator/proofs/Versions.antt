@@ -3,6 +3,7 @@
 use mathlib.Core.Path.{◌≡◌, refl, sym, ap, ap₂, ◌∙◌}
 use mathlib.Core.Bool.{Bool, true, false}
 use mathlib.Core.List.{List}
+use Rattle.std.specs.Prelude.{Some, None, Ok, Err}
 use Prim.Native.Nat.{ℕ, suc, ◌+◌, ◌-◌, ◌^◌, ◌<◌, ◌≤◌}
 use native.Mathlib.Omega.{arith}
 use lib.Dec.{leb, ltb}
@@ -14,8 +15,8 @@ use Rattle.num.proofs.Choice.{true_both, both_no, if_true}
 use Rattle.encoding.specs.Encoding.{version_len_of}
 use Rattle.header.specs.declared.Opened.{Opened}
 use Rattle.versions.specs.Version.{stored_seq}
-use Rattle.locator.specs.declared.Located.{Located}
-use Rattle.locator.specs.declared.Located.TheVariants.{Found, Missing, Refused}
+use Rattle.locator.specs.Locator.{Located}
+use Rattle.refusal.specs.declared.Refusal.TheVariants as refusal
 use Rattle.locator.specs.Locator.{readable, locator_at, versions_from}
 
 -- the sum of the least sequence and the stored number
@@ -43,10 +44,10 @@ module _ (s : List ℕ) (o : Opened) (pos limit : ℕ) where
   answer k read low =
       elim read [
         | true ↦ elim low [
-          | true ↦ (when readable s pos (version_len_of o.encoding) then Found (locator_at s o pos) else Refused 25)
+          | true ↦ (when readable s pos (version_len_of o.encoding) then Ok (Some (locator_at s o pos)) else Err refusal.Read)
           | false ↦ versions_from k s o (pos + version_len_of o.encoding) limit
         ]
-        | false ↦ Refused 25
+        | false ↦ Err refusal.Read
       ]
 
   one : (k : ℕ) (read low : Bool) → read_of ≡ read → leb (stored_seq s o pos) limit ≡ low → versions_from (suc k) s o pos limit ≡ answer k read low
@@ -75,26 +76,26 @@ module _ (s : List ℕ) (o : Opened) (pos limit : ℕ) where
   some n h = let e : n ≡ suc (n - 1) = omega arith in ap (λ (k : ℕ). versions_from k s o pos limit) e
 
   -- its sequence is not read outside the section
-  pub version_outside : (n : ℕ) → 0 < n → length s < pos + o.encoding.seq → versions_from n s o pos limit ≡ Refused 25
+  pub version_outside : (n : ℕ) → 0 < n → length s < pos + o.encoding.seq → versions_from n s o pos limit ≡ Err refusal.Read
   version_outside n h l = some n h ∙ one (n - 1) false _ (read_outside l) refl
 
   -- its sequence is not beyond 64 bits
   pub version_beyond : (n stored : ℕ) → 0 < n → pos + o.encoding.seq ≤ length s → stored ≡ le_at s pos o.encoding.seq
-      → 2 ^ 64 - 1 - o.min_seq < stored → versions_from n s o pos limit ≡ Refused 25
+      → 2 ^ 64 - 1 - o.min_seq < stored → versions_from n s o pos limit ≡ Err refusal.Read
   unfolding stored_seq
   version_beyond n stored h l e b = some n h ∙ one (n - 1) false _ (read-beyond l (omega arith)) refl
 
   -- its sequence is within the limit: it is the answer
   pub version_within : (n : ℕ) → 0 < n → pos + o.encoding.seq ≤ length s → stored_seq s o pos < 2 ^ 64 → stored_seq s o pos ≤ limit
-      → versions_from n s o pos limit ≡ (when readable s pos (version_len_of o.encoding) then Found (locator_at s o pos) else Refused 25)
+      → versions_from n s o pos limit ≡ (when readable s pos (version_len_of o.encoding) then Ok (Some (locator_at s o pos)) else Err refusal.Read)
   version_within n h l b w = some n h ∙ one (n - 1) true true (read-both l b) (le-leb (stored_seq s o pos) limit w)
 
   -- or above it: the next one is asked
-  pub version_above : (n : ℕ) → 0 < n → pos + o.encoding.seq ≤ length s → stored_seq s o pos < 2 ^ 64 → limit < stored_seq s o pos
-      → versions_from n s o pos limit ≡ versions_from (n - 1) s o (pos + version_len_of o.encoding) limit
-  version_above n h l b w = some n h ∙ one (n - 1) true false (read-both l b) (lt-leb (stored_seq s o pos) limit w)
+  pub version_above : (n k : ℕ) → n ≡ suc k → pos + o.encoding.seq ≤ length s → stored_seq s o pos < 2 ^ 64 → limit < stored_seq s o pos
+      → versions_from n s o pos limit ≡ versions_from k s o (pos + version_len_of o.encoding) limit
+  version_above n k h l b w = ap (λ (m : ℕ). versions_from m s o pos limit) h ∙ one k true false (read-both l b) (lt-leb (stored_seq s o pos) limit w)
 
   -- none is left
-  pub versions_none : (n : ℕ) → n ≤ 0 → versions_from n s o pos limit ≡ Missing
+  pub versions_none : (n : ℕ) → n ≤ 0 → versions_from n s o pos limit ≡ Ok None
   unfolding versions_from
   versions_none n h = let e : n ≡ 0 = omega arith in ap (λ (k : ℕ). versions_from k s o pos limit) e

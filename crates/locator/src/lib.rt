@@ -1,13 +1,15 @@
 // The first version of a key record that is not above a limit.
 #![tactic(auto)]
 
-ghost use Rattle.std.specs.Prelude.{◌≡◌, ◌+◌, ◌*◌, ◌<◌, ◌≤◌, length};
-ghost use Rattle.num.specs.Choice.{when◌then◌else◌};
+ghost use Rattle.std.specs.Prelude.{◌≡◌, ◌+◌, ◌*◌, ◌<◌, ◌≤◌, Some, Ok, Err, length};
+ghost use Rattle.num.specs.Choice.{when◌then◌else◌, ask◌otherwise◌then◌};
 ghost use Rattle.encoding.specs.Encoding.{Widths, version_len_of, tombstone_of};
 ghost use Rattle.versions.specs.Version.{stored_seq, kind_in, length_in, stored_checksum};
 ghost use Rattle.locator.specs.Locator.{locator_at, readable, versions_from};
 
 use header::Opened;
+use num::LittleEndian;
+use refusal::{Refusal, ask};
 use sstable::Kind;
 
 // A version of a key: kind, sequence, the place and length of its value in the data, and its CRC-32, 0 without checksums.
@@ -18,14 +20,6 @@ pub struct ValueLocator {
     pub offset: u64,
     pub len: u64,
     pub checksum: u64,
-}
-
-// The first stored version of the key that is not above the limit, none, or the number of the question that failed.
-#[derive(Clone, Copy)]
-pub enum Located {
-    Found(ValueLocator),
-    Missing,
-    Refused(u64),
 }
 
 // A tombstone has the top bit of the stored length.
@@ -63,7 +57,7 @@ fn checksum_at(section: &[u8], o: Opened, pos: usize) -> u64
     if !e.checksum {
         return 0;
     }
-    num::u32_at(section, pos + e.seq + e.value + e.address) as u64
+    u32::read(section, pos + e.seq + e.value + e.address) as u64
 }
 
 // The version at a place, whose sequence is known.
@@ -86,21 +80,30 @@ fn locator_at(section: &[u8], o: Opened, pos: usize, seq: u64) -> ValueLocator
 }
 
 // The version at a place, if all of it lies in the section.
-fn version_at(section: &[u8], o: Opened, pos: usize, seq: u64) -> Located
+#[tactic(auto, unfolding(num::specs::Choice::choice_defs, crate::specs::Locator::readable))]
+fn version_at(
+    section: &[u8],
+    o: Opened,
+    pos: usize,
+    seq: u64,
+) -> Result<Option<ValueLocator>, Refusal>
     requires widths { Widths o.encoding }
     requires pos_in_bounds { pos ≤ length section.now }
     requires seq_value { seq ≡ stored_seq section.now o pos }
-    ensures { result ≡ (when readable section.now pos (version_len_of o.encoding) then Located.Found (locator_at section.now o pos) else Located.Refused 25) }
+    ensures { result ≡ (ask readable section.now pos (version_len_of o.encoding) otherwise Err Refusal.Read then Ok (Some (locator_at section.now o pos))) }
 {
-    let e = o.encoding;
-    if section.len() - pos < e.version() {
-        return Located::Refused(25);
-    }
-    Located::Found(locator_at(section, o, pos, seq))
+    ask(o.encoding.version() <= section.len() - pos, Refusal::Read)?;
+    Ok(Some(locator_at(section, o, pos, seq)))
 }
 
 // The first of some versions whose sequence is not above the limit. A stored number above `most` has a sum beyond 64 bits.
-pub fn versions_from(section: &[u8], o: Opened, count: usize, from: usize, limit: u64) -> Located
+pub fn versions_from(
+    section: &[u8],
+    o: Opened,
+    count: usize,
+    from: usize,
+    limit: u64,
+) -> Result<Option<ValueLocator>, Refusal>
     requires widths { Widths o.encoding }
     requires from_in_bounds { from ≤ length section.now }
     ensures { result ≡ versions_from count section.now o from limit }
@@ -109,23 +112,21 @@ pub fn versions_from(section: &[u8], o: Opened, count: usize, from: usize, limit
     let width = e.seq;
     let size = e.version();
     let least = o.min_seq;
-    let most = 0xFFFF_FFFF_FFFF_FFFF - least;
+    let most = u64::MAX - least;
     let mut pos = from;
-    let mut left = count;
-    while 0 < left {
+    for _ in 0..count {
         if section.len() < pos + width {
-            return Located::Refused(25);
+            return Err(Refusal::Read);
         }
         let stored = num::uint(section, pos, width);
         if most < stored {
-            return Located::Refused(25);
+            return Err(Refusal::Read);
         }
         let seq = least + stored;
         if seq <= limit {
             return version_at(section, o, pos, seq);
         }
         pos += size;
-        left -= 1;
     }
-    Located::Missing
+    Ok(None)
 }

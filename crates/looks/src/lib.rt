@@ -2,10 +2,11 @@
 #![tactic(auto)]
 
 ghost use Rattle.std.specs.Prelude.{◌≡◌};
-ghost use Rattle.locator.specs.Locator.{located_number};
+ghost use Rattle.refusal.specs.Refusal.{answer_number};
 ghost use Rattle.looks.specs.Looked.{lookup_of, answer_written};
 
-use locator::Located;
+use lookup::Section;
+use refusal::Refusal;
 
 // Looks a key up under a limit in an opened section, plain or packed, and writes the answer, six zeros for none. The result is 0, or the
 // number of the question that failed (24, 25), which leaves the answer as it was.
@@ -16,25 +17,24 @@ pub fn lookup(
     limit: u64,
     answer: &mut [u64; 6],
 ) -> u64
-    ensures { (result ≡ located_number (lookup_of section.now numbers.now key.now limit))
+    ensures { (result ≡ answer_number (lookup_of section.now numbers.now key.now limit))
         × (answer.new ≡ answer_written (lookup_of section.now numbers.now key.now limit) answer.old) }
 {
     // Each step of the hash needs the one before; the tests of 24 need none of them, and run beside it.
     let h = point::hash(key, numbers[0]);
     if !held::holds(section, numbers) {
-        return 24;
+        return Refusal::RecordGiven.number();
     }
     let o = numbers::read_record(numbers);
-    let found = lookup::locate(section, o, key, limit, h);
-    match found {
-        Located::Found(l) => {
+    match Section::new(section, o).locate(key, limit, h) {
+        Ok(Some(l)) => {
             numbers::write_answer(l, answer);
             0
         }
-        Located::Missing => {
+        Ok(None) => {
             numbers::write_missing(answer);
             0
         }
-        Located::Refused(n) => n,
+        Err(refusal) => refusal.number(),
     }
 }

@@ -9,6 +9,7 @@ use lib.Dec.{leb}
 use lib.ListN.{length, take, drop, length-drop}
 use lib.Seq.{take_all}
 use borrow.Author.Tests.{leb-true, le-leb, lt-leb, eq-eqb, ne_eqb}
+use Rattle.std.specs.Prelude.{None, Ok, Err}
 use Rattle.num.specs.Choice.{when◌then◌else◌}
 use Rattle.num.specs.Order.{equal_bytes}
 use Rattle.num.proofs.Choice.{if_true, if_false}
@@ -16,8 +17,8 @@ use Rattle.encoding.specs.Encoding.{key_header_len_of}
 use Rattle.header.specs.declared.Opened.{Opened}
 use Rattle.arena.specs.declared.KeyHeader.{KeyHeader}
 use Rattle.arena.specs.Key.{key_header_at}
-use Rattle.locator.specs.declared.Located.{Located}
-use Rattle.locator.specs.declared.Located.TheVariants.{Missing, Refused}
+use Rattle.locator.specs.Locator.{Located}
+use Rattle.refusal.specs.declared.Refusal.TheVariants as refusal
 use Rattle.lookup.specs.Lookup.{key_record_of, key_record_at}
 use Rattle.locator.specs.Locator.{readable, versions_from}
 use Rattle.lookup.proofs.Tests.{room_from}
@@ -35,18 +36,18 @@ module _ (s : List ℕ) (o : Opened) (key : List ℕ) (limit pos : ℕ) (h : Key
 
   -- the answer once the suffix is read
   abbrev from_suffix : Located
-  from_suffix = when◌then◌else◌ same_suffix_lem (versions_from h.versions s o (suffix_at_lem + h.suffix_len) limit) Missing
+  from_suffix = when◌then◌else◌ same_suffix_lem (versions_from h.versions s o (suffix_at_lem + h.suffix_len) limit) (Ok None)
 
   -- once the anchor's part is read
   abbrev from_anchor : Located
-  from_anchor = when◌then◌else◌ same_anchor (when readable s suffix_at_lem h.suffix_len then from_suffix else Refused 25) Missing
+  from_anchor = when◌then◌else◌ same_anchor (when readable s suffix_at_lem h.suffix_len then from_suffix else Err refusal.Read) (Ok None)
 
-  pub other_length : (length key ≡ h.shared + h.suffix_len → ⊥) → Missing ≡ key_record_of s o key limit pos h
+  pub other_length : (length key ≡ h.shared + h.suffix_len → ⊥) → Ok None ≡ key_record_of s o key limit pos h
   unfolding key_record_of
   other_length n = sym (if_false _ _ _ (ne_eqb _ _ n))
 
   module _ (len : length key ≡ h.shared + h.suffix_len) (start : o.arena ≤ length s) where
-    pub anchor_outside : leb (h.anchor + h.shared) (length s - o.arena) ≡ false → Refused 25 ≡ key_record_of s o key limit pos h
+    pub anchor_outside : leb (h.anchor + h.shared) (length s - o.arena) ≡ false → Err refusal.Read ≡ key_record_of s o key limit pos h
     unfolding key_record_of readable
     anchor_outside f =
         ((sym (if_false _ from_anchor _ (sym (room_from o.arena h.anchor h.shared (length s) start) ∙ f))) ∙ sym (if_true _ _ _ (eq-eqb _ _ len)))
@@ -61,16 +62,16 @@ module _ (s : List ℕ) (o : Opened) (key : List ℕ) (limit pos : ℕ) (h : Key
       from-anchor r e =
           ((e ∙ sym (if_true _ from_anchor _ (le-leb (o.arena + h.anchor + h.shared) (length s) anchor_inside))) ∙ sym (if_true _ _ _ (eq-eqb _ _ len)))
 
-      pub other_anchor : same_anchor ≡ false → Missing ≡ key_record_of s o key limit pos h
-      other_anchor f = from-anchor Missing (sym (if_false _ _ _ f))
+      pub other_anchor : same_anchor ≡ false → Ok None ≡ key_record_of s o key limit pos h
+      other_anchor f = from-anchor (Ok None) (sym (if_false _ _ _ f))
 
       module _ (front : same_anchor ≡ true) (size : ℕ) (header : size ≡ key_header_len_of o.encoding) (before : pos + size ≤ length s) where
-        from-suffix : (r : Located) → r ≡ (when readable s suffix_at_lem h.suffix_len then from_suffix else Refused 25) → r ≡ key_record_of s o key limit pos h
+        from-suffix : (r : Located) → r ≡ (when readable s suffix_at_lem h.suffix_len then from_suffix else Err refusal.Read) → r ≡ key_record_of s o key limit pos h
         from-suffix r e = from-anchor r (e ∙ sym (if_true _ _ _ front))
 
-        pub suffix_outside : length s - (pos + size) < h.suffix_len → Refused 25 ≡ key_record_of s o key limit pos h
+        pub suffix_outside : length s - (pos + size) < h.suffix_len → Err refusal.Read ≡ key_record_of s o key limit pos h
         unfolding readable
-        suffix_outside l = from-suffix (Refused 25) (sym (if_false _ from_suffix _ (lt-leb (suffix_at_lem + h.suffix_len) (length s) (omega arith))))
+        suffix_outside l = from-suffix (Err refusal.Read) (sym (if_false _ from_suffix _ (lt-leb (suffix_at_lem + h.suffix_len) (length s) (omega arith))))
 
         module _ (behind : h.suffix_len ≤ length s - (pos + size)) where
           suffix-read : (r : Located) → r ≡ from_suffix → r ≡ key_record_of s o key limit pos h
@@ -88,8 +89,8 @@ module _ (s : List ℕ) (o : Opened) (key : List ℕ) (limit pos : ℕ) (h : Key
               ∙ e
 
           pub other_suffix : equal_bytes (take h.suffix_len (drop h.shared key)) (take h.suffix_len (drop (pos + size) s)) ≡ false
-              → Missing ≡ key_record_of s o key limit pos h
-          other_suffix f = suffix-read Missing (sym (if_false _ _ _ (compared f)))
+              → Ok None ≡ key_record_of s o key limit pos h
+          other_suffix f = suffix-read (Ok None) (sym (if_false _ _ _ (compared f)))
 
           pub same_key : equal_bytes (take h.suffix_len (drop h.shared key)) (take h.suffix_len (drop (pos + size) s)) ≡ true
               → versions_from h.versions s o (pos + size + h.suffix_len) limit ≡ key_record_of s o key limit pos h
@@ -107,7 +108,7 @@ module _ (s : List ℕ) (o : Opened) (key : List ℕ) (limit address : ℕ) (sta
       ∙ sym (room_from o.arena address size (length s) start)
       ∙ e
 
-  pub address_outside : leb (address + size) (length s - o.arena) ≡ false → Refused 25 ≡ key_record_at s o key limit (o.arena + address)
+  pub address_outside : leb (address + size) (length s - o.arena) ≡ false → Err refusal.Read ≡ key_record_at s o key limit (o.arena + address)
   unfolding key_record_at readable
   address_outside f = sym (if_false _ _ _ (read f))
 

@@ -8,6 +8,7 @@ use native.Mathlib.Omega.{arith}
 use lib.Dec.{eqb}
 use lib.ListN.{length, get_or}
 use borrow.Author.Tests.{le-leb, lt-leb}
+use Rattle.std.specs.Prelude.{None, Ok, Err}
 use Rattle.num.specs.Choice.{when◌then◌else◌, either}
 use Rattle.num.specs.Number.{le_at}
 use Rattle.num.proofs.Choice.{false_true, if_case, if_true, if_false}
@@ -21,8 +22,8 @@ use Rattle.header.specs.Facts.{Header, PackedHeader, IsRecord, from_plain, from_
 use Rattle.header.proofs.Bounds.{product_le, buckets_range, pilot_inside, packed_pilot_inside, arena_end, record_dimensions}
 use Rattle.lookup.specs.Lookup.{unpacked, pilot_len, pilot_offset, pilot_of, slot_len, slot_offset, key_record_at, slot_read_of, hash_read}
 use Rattle.locator.specs.Locator.{readable}
-use Rattle.locator.specs.declared.Located.{Located}
-use Rattle.locator.specs.declared.Located.TheVariants.{Missing, Refused}
+use Rattle.locator.specs.Locator.{Located}
+use Rattle.refusal.specs.declared.Refusal.TheVariants as refusal
 
 -- ---- pilots
 
@@ -86,9 +87,9 @@ module _ (s : List ℕ) (o : Opened) (key : List ℕ) (limit h at : ℕ) where
   agrees = either o.packed (eqb (le_at s (at + o.encoding.address) 2) (fingerprint_of h))
 
   abbrev named : Located
-  named = when◌then◌else◌ agrees (key_record_at s o key limit (o.arena + le_at s at o.encoding.address)) Missing
+  named = when◌then◌else◌ agrees (key_record_at s o key limit (o.arena + le_at s at o.encoding.address)) (Ok None)
 
-  pub slot_outside : length s < at + slot_len o → Refused 25 ≡ slot_read_of s o key limit h at
+  pub slot_outside : length s < at + slot_len o → Err refusal.Read ≡ slot_read_of s o key limit h at
   unfolding slot_read_of readable
   slot_outside l = sym (if_false _ named _ (lt-leb (at + slot_len o) (length s) l))
 
@@ -97,8 +98,8 @@ module _ (s : List ℕ) (o : Opened) (key : List ℕ) (limit h at : ℕ) where
     unfolding slot_read_of readable
     from-slot r e = e ∙ sym (if_true _ named _ (le-leb (at + slot_len o) (length s) inside))
 
-    pub other_fingerprint : agrees ≡ false → Missing ≡ slot_read_of s o key limit h at
-    other_fingerprint f = from-slot Missing (sym (if_false _ _ _ f))
+    pub other_fingerprint : agrees ≡ false → Ok None ≡ slot_read_of s o key limit h at
+    other_fingerprint f = from-slot (Ok None) (sym (if_false _ _ _ f))
 
     pub slot_names_lem : agrees ≡ true → {address : ℕ} → address ≡ le_at s at o.encoding.address
         → key_record_at s o key limit (o.arena + address) ≡ slot_read_of s o key limit h at

@@ -1,5 +1,5 @@
 -- Lookup: questions 24 and 25, in the order of the Rust's reads (document 01, "Lookup").
-use Rattle.std.specs.Prelude.{ℕ, ◌+◌, ◌*◌, ◌-◌, ◌%◌, ◌^◌, List, eqb, leb, length, take, drop}
+use Rattle.std.specs.Prelude.{ℕ, ◌+◌, ◌*◌, ◌-◌, ◌%◌, ◌^◌, List, None, Ok, Err, eqb, leb, length, take, drop}
 use Rattle.num.specs.Choice.{when◌then◌else◌, ask◌otherwise◌then◌, either}
 use Rattle.num.specs.Number.{le_at}
 use Rattle.num.specs.Order.{equal_bytes}
@@ -9,9 +9,8 @@ use Rattle.header.specs.declared.Opened.{Opened}
 use Rattle.opened.specs.Opened.{is_record_of}
 use Rattle.arena.specs.declared.KeyHeader.{KeyHeader}
 use Rattle.arena.specs.Key.{key_header_at}
-use Rattle.locator.specs.declared.Located.{Located}
-use Rattle.locator.specs.declared.Located.TheVariants.{Missing, Refused}
-use Rattle.locator.specs.Locator.{readable, versions_from}
+use Rattle.locator.specs.Locator.{Located, readable, versions_from}
+use Rattle.refusal.specs.declared.Refusal.TheVariants as refusal
 
 -- a packed pilot, of 24 bits, with bit 23 moved back to bit 31
 unfoldable pub unpacked : ℕ → ℕ
@@ -40,36 +39,36 @@ slot_offset s o h = header_len + pilot_len o * o.buckets + slot_of h (pilot_of s
 -- a key record with its key header: the anchor's part is read if the lengths agree, and the suffix if that part agrees
 unfoldable pub key_record_of : List ℕ → Opened → List ℕ → ℕ → ℕ → KeyHeader → Located
 key_record_of s o key limit pos h =
-    ask eqb (length key) (h.shared + h.suffix_len) otherwise Missing then
-    ask readable s (o.arena + h.anchor) h.shared otherwise Refused 25 then
-    ask equal_bytes (take h.shared key) (take h.shared (drop (o.arena + h.anchor) s)) otherwise Missing then
-    ask readable s (pos + key_header_len_of o.encoding) h.suffix_len otherwise Refused 25 then
-    ask equal_bytes (drop h.shared key) (take h.suffix_len (drop (pos + key_header_len_of o.encoding) s)) otherwise Missing then
+    ask eqb (length key) (h.shared + h.suffix_len) otherwise Ok None then
+    ask readable s (o.arena + h.anchor) h.shared otherwise Err refusal.Read then
+    ask equal_bytes (take h.shared key) (take h.shared (drop (o.arena + h.anchor) s)) otherwise Ok None then
+    ask readable s (pos + key_header_len_of o.encoding) h.suffix_len otherwise Err refusal.Read then
+    ask equal_bytes (drop h.shared key) (take h.suffix_len (drop (pos + key_header_len_of o.encoding) s)) otherwise Ok None then
     versions_from h.versions s o (pos + key_header_len_of o.encoding + h.suffix_len) limit
 
 -- the key record at a place: its key header is read first
 unfoldable pub key_record_at : List ℕ → Opened → List ℕ → ℕ → ℕ → Located
 key_record_at s o key limit pos =
-    ask readable s pos (key_header_len_of o.encoding) otherwise Refused 25 then
+    ask readable s pos (key_header_len_of o.encoding) otherwise Err refusal.Read then
     key_record_of s o key limit pos (key_header_at s o.encoding pos)
 
 -- the slot of a hash: in the plain form the fingerprint is asked first
 unfoldable pub slot_read_of : List ℕ → Opened → List ℕ → ℕ → ℕ → ℕ → Located
 slot_read_of s o key limit h at =
-    ask readable s at (slot_len o) otherwise Refused 25 then
-    ask either o.packed (eqb (le_at s (at + o.encoding.address) 2) (fingerprint_of h)) otherwise Missing then
+    ask readable s at (slot_len o) otherwise Err refusal.Read then
+    ask either o.packed (eqb (le_at s (at + o.encoding.address) 2) (fingerprint_of h)) otherwise Ok None then
     key_record_at s o key limit (o.arena + le_at s at o.encoding.address)
 
 -- the pilot of a hash, then its slot
 unfoldable pub hash_read : List ℕ → Opened → List ℕ → ℕ → ℕ → Located
 hash_read s o key limit h =
-    ask readable s (pilot_offset o h) (pilot_len o) otherwise Refused 25 then
+    ask readable s (pilot_offset o h) (pilot_len o) otherwise Err refusal.Read then
     slot_read_of s o key limit h (slot_offset s o h)
 
 -- the lookup of a key under a limit: 24, then the reads
 unfoldable pub locate_of : List ℕ → Opened → List ℕ → ℕ → Located
 locate_of s o key limit =
-    ask is_record_of s o otherwise Refused 24 then
+    ask is_record_of s o otherwise Err refusal.RecordGiven then
     hash_read s o key limit (hash_value key o.seed)
 
 -- no limit: every sequence, a number of 64 bits, is within it

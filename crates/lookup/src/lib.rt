@@ -1,12 +1,13 @@
 // Lookup: from a key and a limit to the version that the section names, and from there to the value.
 #![tactic(auto)]
 
-ghost use Rattle.std.specs.Prelude.{◌≡◌, ◌+◌, ◌*◌, ◌<◌, ◌≤◌, ◌^◌, leb, eqb, length};
+ghost use Rattle.std.specs.Prelude.{◌≡◌, true, ◌+◌, ◌*◌, ◌<◌, ◌≤◌, ◌^◌, leb, eqb, length};
 ghost use Rattle.num.specs.Choice.{either};
 ghost use Rattle.num.specs.Number.{le_at};
 ghost use Rattle.point.specs.Hash.{fingerprint_of};
 ghost use Rattle.encoding.specs.Encoding.{Widths, key_header_len_of};
-ghost use Rattle.header.specs.Facts.{IsRecord};
+ghost use Rattle.opened.specs.Opened.{is_record_of};
+ghost use Rattle.arena.specs.Key.{key_header_at};
 ghost use Rattle.arena.specs.Internal.{Narrow};
 ghost use Rattle.lookup.specs.Value.{value_part, value_number};
 ghost use Rattle.lookup.specs.Lookup.{unpacked, pilot_len, pilot_of, slot_len, slot_offset, key_record_of, key_record_at, slot_read_of, hash_read};
@@ -14,7 +15,9 @@ ghost use Rattle.lookup.specs.Lookup.{unpacked, pilot_len, pilot_of, slot_len, s
 use arena::KeyHeader;
 use encoding::Encoding;
 use header::Opened;
-use locator::Located;
+use locator::ValueLocator;
+use num::LittleEndian;
+use refusal::{Refusal, ask};
 
 // Do so many bytes at a place end within a length? The sum may pass 2^64, the difference does not.
 fn inside(len: usize, place: u64, bytes: u64) -> bool
@@ -62,21 +65,6 @@ fn unpacked(p: u32) -> u32
     p - 0x80_0000 + point::DIRECT
 }
 
-// The pilot of a hash.
-fn pilot_of(section: &[u8], o: Opened, h: u64) -> u32
-    requires { IsRecord section.now o }
-    ensures { result ≡ pilot_of section.now o h }
-{
-    let bucket = point::bucket(h, o.buckets as u64) as usize;
-    if o.packed {
-        let at = Encoding::HEADER + 3 * bucket;
-        let low = num::u16_at(section, at) as u32;
-        let high = num::widen(section[at + 2]) as u32;
-        return unpacked(low + 0x1_0000 * high);
-    }
-    num::u32_at(section, Encoding::HEADER + 4 * bucket)
-}
-
 fn slot_len(o: Opened) -> usize
     requires { Widths o.encoding }
     ensures { result ≡ slot_len o }
@@ -91,99 +79,155 @@ fn pilot_len(o: Opened) -> usize
     if o.packed { 3 } else { 4 }
 }
 
-// The place of the slot of a hash.
-fn slot_at(section: &[u8], o: Opened, h: u64) -> usize
-    requires { IsRecord section.now o }
-    ensures { result ≡ slot_offset section.now o h }
+// The key header at a place, whose lengths have four bytes at most.
+fn key_header(section: &[u8], e: Encoding, pos: usize) -> KeyHeader
+    requires widths { Widths e }
+    requires in_bounds { pos + key_header_len_of e ≤ length section.now }
+    ensures { (result ≡ key_header_at section.now e pos) × Narrow result }
 {
-    let pilot = pilot_of(section, o, h);
-    let slot = point::slot(h, pilot, o.count as u64) as usize;
-    Encoding::HEADER + pilot_len(o) * o.buckets + slot * slot_len(o)
+    arena::key_header_at(section, e, pos)
 }
 
-// The key record whose header stands at a place: its key must be the one asked for.
-fn key_record(
-    section: &[u8],
-    o: Opened,
-    key: &[u8],
-    limit: u64,
-    pos: usize,
-    h: KeyHeader,
-) -> Located
-    requires fact { IsRecord section.now o }
-    requires narrow { Narrow h }
-    requires encoding_in_bounds { pos + key_header_len_of o.encoding ≤ length section.now }
-    ensures { result ≡ key_record_of section.now o key.now limit pos h }
-{
-    let shared = h.shared;
-    let suffix_len = h.suffix_len;
-    if key.len() != shared + suffix_len {
-        return Located::Missing;
-    }
-    if !inside(section.len() - o.arena, h.anchor as u64, shared as u64) {
-        return Located::Refused(25);
-    }
-    let anchor = o.arena + h.anchor;
-    if !num::same_part(key, 0, section, anchor, shared) {
-        return Located::Missing;
-    }
-    let e = o.encoding;
-    let suffix = pos + e.key_header();
-    if section.len() - suffix < suffix_len {
-        return Located::Refused(25);
-    }
-    if !num::same_part(key, shared, section, suffix, suffix_len) {
-        return Located::Missing;
-    }
-    locator::versions_from(section, o, h.versions, suffix + suffix_len, limit)
+// An opened section: its bytes and the record that they give, plain or packed.
+#[derive(Clone, Copy)]
+pub struct Section<'a> {
+    bytes: &'a [u8],
+    opened: Opened,
+    ghost given: { is_record_of bytes.now opened ≡ true },
 }
 
-// The key record at an address.
-fn key_of_address(section: &[u8], o: Opened, key: &[u8], limit: u64, address: u64) -> Located
-    requires { IsRecord section.now o }
-    ensures { result ≡ key_record_at section.now o key.now limit (o.arena + address) }
-{
-    let e = o.encoding;
-    if !inside(section.len() - o.arena, address, e.key_header() as u64) {
-        return Located::Refused(25);
+impl<'a> Section<'a> {
+    pub fn new(bytes: &'a [u8], opened: Opened) -> Section<'a>
+        requires { is_record_of bytes.now opened ≡ true }
+        ensures { (result.bytes.now ≡ bytes.now) × (result.opened ≡ opened) }
+    {
+        Section { bytes, opened }
     }
-    let pos = o.arena + address as usize;
-    let h = arena::key_header_at(section, e, pos);
-    key_record(section, o, key, limit, pos, h)
-}
 
-// Does the fingerprint in a slot agree? A packed slot has none.
-fn fingerprint_agrees(section: &[u8], o: Opened, h: u64, at: usize) -> bool
-    requires { at + slot_len o ≤ length section.now }
-    ensures { result ≡ either o.packed (eqb (le_at section.now (at + o.encoding.address) 2) (fingerprint_of h)) }
-{
-    if o.packed {
-        return true;
+    // The pilot of a hash.
+    fn pilot_of(&self, h: u64) -> u32
+        ensures { result ≡ pilot_of self.now.bytes.now self.now.opened h }
+    {
+        let section = self.bytes;
+        let o = self.opened;
+        let bucket = point::bucket(h, o.buckets as u64) as usize;
+        if o.packed {
+            let at = Encoding::HEADER + 3 * bucket;
+            let low = u16::read(section, at) as u32;
+            let high = section[at + 2] as u32;
+            return unpacked(low + 0x1_0000 * high);
+        }
+        u32::read(section, Encoding::HEADER + 4 * bucket)
     }
-    num::u16_at(section, at + o.encoding.address) == point::fingerprint(h) as u64
-}
 
-// The key record that a slot names.
-fn slot_read(section: &[u8], o: Opened, key: &[u8], limit: u64, h: u64, at: usize) -> Located
-    requires fact { IsRecord section.now o }
-    requires at_bound { at < 2 ^ 36 }
-    ensures { result ≡ slot_read_of section.now o key.now limit h at }
-{
-    if section.len() < at + slot_len(o) {
-        return Located::Refused(25);
+    // The place of the slot of a hash.
+    fn slot_at(&self, h: u64) -> usize
+        ensures { result ≡ slot_offset self.now.bytes.now self.now.opened h }
+    {
+        let o = self.opened;
+        let pilot = self.pilot_of(h);
+        let slot = point::slot(h, pilot, o.count as u64) as usize;
+        Encoding::HEADER + pilot_len(o) * o.buckets + slot * slot_len(o)
     }
-    if !fingerprint_agrees(section, o, h, at) {
-        return Located::Missing;
-    }
-    let address = num::uint(section, at, o.encoding.address);
-    key_of_address(section, o, key, limit, address)
-}
 
-// The version of a key, given by its hash too, that a section names within a limit.
-pub fn locate(section: &[u8], o: Opened, key: &[u8], limit: u64, h: u64) -> Located
-    requires { IsRecord section.now o }
-    ensures { result ≡ hash_read section.now o key.now limit h }
-{
-    let at = slot_at(section, o, h);
-    slot_read(section, o, key, limit, h, at)
+    // The key record whose header stands at a place: its key must be the one asked for.
+    fn key_record(
+        &self,
+        key: &[u8],
+        limit: u64,
+        pos: usize,
+        h: KeyHeader,
+    ) -> Result<Option<ValueLocator>, Refusal>
+        requires narrow { Narrow h }
+        requires encoding_in_bounds { pos + key_header_len_of self.now.opened.encoding ≤ length self.now.bytes.now }
+        ensures { result ≡ key_record_of self.now.bytes.now self.now.opened key.now limit pos h }
+    {
+        let section = self.bytes;
+        let o = self.opened;
+        let shared = h.shared;
+        let suffix_len = h.suffix_len;
+        if key.len() != shared + suffix_len {
+            return Ok(None);
+        }
+        if !inside(section.len() - o.arena, h.anchor as u64, shared as u64) {
+            return Err(Refusal::Read);
+        }
+        let anchor = o.arena + h.anchor;
+        if !num::same_part(key, 0, section, anchor, shared) {
+            return Ok(None);
+        }
+        let e = o.encoding;
+        let suffix = pos + e.key_header();
+        if section.len() - suffix < suffix_len {
+            return Err(Refusal::Read);
+        }
+        if !num::same_part(key, shared, section, suffix, suffix_len) {
+            return Ok(None);
+        }
+        locator::versions_from(section, o, h.versions, suffix + suffix_len, limit)
+    }
+
+    // The key record at an address.
+    fn key_of_address(
+        &self,
+        key: &[u8],
+        limit: u64,
+        address: u64,
+    ) -> Result<Option<ValueLocator>, Refusal>
+        ensures { result ≡ key_record_at self.now.bytes.now self.now.opened key.now limit (self.now.opened.arena + address) }
+    {
+        let section = self.bytes;
+        let o = self.opened;
+        let e = o.encoding;
+        if !inside(section.len() - o.arena, address, e.key_header() as u64) {
+            return Err(Refusal::Read);
+        }
+        let pos = o.arena + address as usize;
+        let h = key_header(section, e, pos);
+        self.key_record(key, limit, pos, h)
+    }
+
+    // Does the fingerprint in a slot agree? A packed slot has none.
+    fn fingerprint_agrees(&self, h: u64, at: usize) -> bool
+        requires { at + slot_len self.now.opened ≤ length self.now.bytes.now }
+        ensures { result ≡ either self.now.opened.packed (eqb (le_at self.now.bytes.now (at + self.now.opened.encoding.address) 2) (fingerprint_of h)) }
+    {
+        let section = self.bytes;
+        let o = self.opened;
+        if o.packed {
+            return true;
+        }
+        u16::read(section, at + o.encoding.address) as u64 == point::fingerprint(h) as u64
+    }
+
+    // The key record that a slot names.
+    fn slot_read(
+        &self,
+        key: &[u8],
+        limit: u64,
+        h: u64,
+        at: usize,
+    ) -> Result<Option<ValueLocator>, Refusal>
+        requires at_bound { at < 2 ^ 36 }
+        ensures { result ≡ slot_read_of self.now.bytes.now self.now.opened key.now limit h at }
+    {
+        let section = self.bytes;
+        let o = self.opened;
+        if section.len() < at + slot_len(o) {
+            return Err(Refusal::Read);
+        }
+        if !self.fingerprint_agrees(h, at) {
+            return Ok(None);
+        }
+        let address = num::uint(section, at, o.encoding.address);
+        self.key_of_address(key, limit, address)
+    }
+
+    // The version of a key, given by its hash too, that a section names within a limit.
+    pub fn locate(&self, key: &[u8], limit: u64, h: u64) -> Result<Option<ValueLocator>, Refusal>
+        ensures { result ≡ hash_read self.now.bytes.now self.now.opened key.now limit h }
+    {
+        let at = self.slot_at(h);
+        self.slot_read(key, limit, h, at)
+    }
 }

@@ -1,22 +1,17 @@
 -- Demand 1, of the numbers that the entries give: each entry has numbers of its own, a refusal gives one of them and never 0, and 0 is
 -- given exactly if the entry accepted, answered a version or none, took what was added, told the size, or wrote the section.
-use Rattle.std.specs.Prelude.{◌≡◌, ◌↔◌, ◌⊎◌, ℕ, ◌+◌, ◌≤◌, length}
+use Rattle.std.specs.Prelude.{◌≡◌, ◌↔◌, ◌⊎◌, ℕ, ◌+◌, ◌≤◌, length, Some, None, Ok}
 use mathlib.Core.List.{List, [], ◌∷◌, Memᴰ}
-use Rattle.num.specs.Answer.{given}
+use Rattle.refusal.specs.Refusal.{answer_number}
 use Rattle.header.specs.declared.Opened.{Opened}
-use Rattle.header.specs.declared.HeaderRead.TheVariants.{Accepted}
-use Rattle.header.specs.Header.{header_number}
 use Rattle.opening.specs.Open.{open_of}
-use Rattle.packing.specs.Packing.{open_packed_of, packed_as, packed_read, packed_number}
+use Rattle.packing.specs.Packing.{open_packed_of, packed_as, packed_read}
 use Rattle.locator.specs.declared.ValueLocator.{ValueLocator}
-use Rattle.locator.specs.declared.Located.TheVariants.{Found, Missing}
-use Rattle.locator.specs.Locator.{located_number}
 use Rattle.lookup.specs.Value.{value_number}
 use Rattle.builder.specs.Offer.{Offer}
-use Rattle.builder.specs.Record.{size_of_section, sized_read, sized_number}
-use Rattle.builder.specs.Add.{BuilderState, add_of, added_read, added_number}
+use Rattle.builder.specs.Record.{size_of_section}
+use Rattle.builder.specs.Add.{BuilderState, add_of}
 use Rattle.writer.specs.Write.{write_of}
-use Rattle.writing.specs.Wrote.{wrote_read, wrote_number}
 use Rattle.numbers.specs.BuilderNumbers.{builder_in}
 use Rattle.looks.specs.Looked.{lookup_of}
 
@@ -54,20 +49,20 @@ write_numbers = 35 ∷ 36 ∷ 37 ∷ 38 ∷ 39 ∷ 40 ∷ []
 
 -- the plain opening of a section beside data and a block list, with a key scratch of a length
 pub record OpenNumbered (s «data» blocks : List ℕ) (scratch : ℕ) : Type 0 where
-  pub number : OwnNumber open_numbers (header_number (open_of s «data» blocks scratch))
-  pub zero : (header_number (open_of s «data» blocks scratch) ≡ 0) ↔ ((o : Opened) × (open_of s «data» blocks scratch ≡ Accepted o))
+  pub number : OwnNumber open_numbers (answer_number (open_of s «data» blocks scratch))
+  pub zero : (answer_number (open_of s «data» blocks scratch) ≡ 0) ↔ ((o : Opened) × (open_of s «data» blocks scratch ≡ Ok o))
 
 -- the packed opening, with an output of a length too
 pub record PackNumbered (s «data» blocks : List ℕ) (scratch room : ℕ) : Type 0 where
-  pub number : OwnNumber pack_numbers (packed_number (packed_read (open_packed_of s «data» blocks scratch room)))
-  pub zero : (packed_number (packed_read (open_packed_of s «data» blocks scratch room)) ≡ 0)
+  pub number : OwnNumber pack_numbers (answer_number (packed_read (open_packed_of s «data» blocks scratch room)))
+  pub zero : (answer_number (packed_read (open_packed_of s «data» blocks scratch room)) ≡ 0)
       ↔ ((p : Opened) × ((bytes : List ℕ) × (open_packed_of s «data» blocks scratch room ≡ packed_as p bytes)))
 
 -- a lookup of a key under a limit, over sixteen numbers as the record
 pub record LookupNumbered (s numbers key : List ℕ) (limit : ℕ) : Type 0 where
-  pub number : OwnNumber lookup_numbers (located_number (lookup_of s numbers key limit))
-  pub zero : (located_number (lookup_of s numbers key limit) ≡ 0)
-      ↔ ((lookup_of s numbers key limit ≡ Missing) ⊎ ((l : ValueLocator) × (lookup_of s numbers key limit ≡ Found l)))
+  pub number : OwnNumber lookup_numbers (answer_number (lookup_of s numbers key limit))
+  pub zero : (answer_number (lookup_of s numbers key limit) ≡ 0)
+      ↔ ((lookup_of s numbers key limit ≡ Ok None) ⊎ ((l : ValueLocator) × (lookup_of s numbers key limit ≡ Ok (Some l))))
 
 -- a value's offset and length
 pub record ValueNumbered («data» : List ℕ) (offset len : ℕ) : Type 0 where
@@ -76,19 +71,19 @@ pub record ValueNumbered («data» : List ℕ) (offset len : ℕ) : Type 0 where
 
 -- an add of an entry to an area, over sixteen numbers as the record
 pub record AddNumbered (area numbers : List ℕ) (e : Offer) : Type 0 where
-  pub number : OwnNumber add_numbers (added_number (added_read (add_of area (builder_in numbers) e)))
-  pub zero : (added_number (added_read (add_of area (builder_in numbers) e)) ≡ 0) ↔ ((s : BuilderState) × (add_of area (builder_in numbers) e ≡ given s))
+  pub number : OwnNumber add_numbers (answer_number (add_of area (builder_in numbers) e))
+  pub zero : (answer_number (add_of area (builder_in numbers) e) ≡ 0) ↔ ((s : BuilderState) × (add_of area (builder_in numbers) e ≡ Ok s))
 
 -- the size of what is written with a scan prefix
 pub record SizeNumbered (numbers : List ℕ) (prefix : ℕ) : Type 0 where
-  pub number : OwnNumber size_numbers (sized_number (sized_read (size_of_section (builder_in numbers) prefix)))
-  pub zero : (sized_number (sized_read (size_of_section (builder_in numbers) prefix)) ≡ 0) ↔ ((n : ℕ) × (size_of_section (builder_in numbers) prefix ≡ given n))
+  pub number : OwnNumber size_numbers (answer_number (size_of_section (builder_in numbers) prefix))
+  pub zero : (answer_number (size_of_section (builder_in numbers) prefix) ≡ 0) ↔ ((n : ℕ) × (size_of_section (builder_in numbers) prefix ≡ Ok n))
 
 -- writing with a scan prefix, with scratches and an output of these lengths
 pub record WriteNumbered (area numbers : List ℕ) (prefix room64 room32 room : ℕ) : Type 0 where
-  pub number : OwnNumber write_numbers (wrote_number (wrote_read (write_of area (builder_in numbers) prefix room64 room32 room)))
-  pub zero : (wrote_number (wrote_read (write_of area (builder_in numbers) prefix room64 room32 room)) ≡ 0)
-      ↔ ((s : List ℕ) × (write_of area (builder_in numbers) prefix room64 room32 room ≡ given s))
+  pub number : OwnNumber write_numbers (answer_number (write_of area (builder_in numbers) prefix room64 room32 room))
+  pub zero : (answer_number (write_of area (builder_in numbers) prefix room64 room32 room) ≡ 0)
+      ↔ ((s : List ℕ) × (write_of area (builder_in numbers) prefix room64 room32 room ≡ Ok s))
 
 -- demand 1 of the numbers, entry by entry
 unfoldable pub OpensNumbered : Type 0

@@ -8,10 +8,17 @@ use native.Mathlib.Omega.{arith}
 use lib.Dec.{eqb, leb}
 use lib.ListN.{length}
 use lib.Seq.{sets, length-sets, take_all}
+use mir.Val.{bool_byte}
 use Rattle.num.specs.Choice.{when◌then◌else◌, both}
 use Rattle.num.proofs.Lists.{part_sets_same}
 use Rattle.header.specs.declared.Opened.{Opened}
 use Rattle.numbers.specs.Numbers.{flag_number, record_numbers, opened_of, is_record_numbers}
+
+-- a flag as code makes a number of it
+pub flag_byte : (b : Bool) → bool_byte b ≡ flag_number b
+unfolding flag_number when◌then◌else◌
+flag_byte true = refl
+flag_byte false = refl
 
 flag_read : (b : Bool) → eqb (flag_number b) 1 ≡ b
 unfolding flag_number when◌then◌else◌

@@ -3,8 +3,7 @@
 
 ghost use Rattle.std.specs.Prelude.{◌≡◌};
 ghost use Rattle.std.proofs.lemmas.List.Edits.{sets};
-ghost use Rattle.numbers.specs.Numbers.{flag_number, record_numbers};
-ghost use Rattle.numbers.specs.Numbers.{opened_of, is_record_numbers, answer_numbers, none_numbers};
+ghost use Rattle.numbers.specs.Numbers.{record_numbers, opened_of, is_record_numbers, answer_numbers, none_numbers};
 ghost use Rattle.numbers.specs.BuilderNumbers.{builder_numbers, is_builder_numbers, used_in, builder_in};
 
 use builder::Builder;
@@ -12,33 +11,29 @@ use encoding::{Encoding, Totals};
 use header::Opened;
 use locator::ValueLocator;
 
-fn flag_number(b: bool) -> u64
-    ensures { result ≡ flag_number b }
-{
-    if b { 1 } else { 0 }
-}
-
 // Writes an opened record as its sixteen numbers.
 pub fn write_record(o: Opened, out: &mut [u64; 16])
     ensures { out.new ≡ sets out.old 0 (record_numbers o) }
 {
     let e = o.encoding;
-    out[0] = o.seed;
-    out[1] = o.min_seq;
-    out[2] = o.count as u64;
-    out[3] = o.buckets as u64;
-    out[4] = o.arena as u64;
-    out[5] = e.address as u64;
-    out[6] = e.key as u64;
-    out[7] = e.count as u64;
-    out[8] = e.seq as u64;
-    out[9] = e.value as u64;
-    out[10] = flag_number(e.checksum);
-    out[11] = o.scan as u64;
-    out[12] = flag_number(o.packed);
-    out[13] = 0;
-    out[14] = 0;
-    out[15] = 0;
+    *out = [
+        o.seed,
+        o.min_seq,
+        o.count as u64,
+        o.buckets as u64,
+        o.arena as u64,
+        e.address as u64,
+        e.key as u64,
+        e.count as u64,
+        e.seq as u64,
+        e.value as u64,
+        e.checksum as u64,
+        o.scan as u64,
+        o.packed as u64,
+        0,
+        0,
+        0,
+    ];
 }
 
 // Could these sixteen numbers be a record that an opening wrote?
@@ -73,28 +68,25 @@ pub fn read_record(numbers: &[u64; 16]) -> Opened
 }
 
 // Writes the version that was found as its six numbers.
+#[tactic(auto, unfolding(crate::specs::Numbers::answer_numbers))]
 pub fn write_answer(l: ValueLocator, answer: &mut [u64; 6])
     ensures { answer.new ≡ sets answer.old 0 (answer_numbers l) }
 {
-    let kind = l.kind;
-    answer[0] = 1;
-    answer[1] = kind.to_u8() as u64;
-    answer[2] = l.seq;
-    answer[3] = l.offset;
-    answer[4] = l.len;
-    answer[5] = l.checksum;
+    *answer = [
+        1,
+        u8::from(l.kind) as u64,
+        l.seq,
+        l.offset,
+        l.len,
+        l.checksum,
+    ];
 }
 
 // Writes that there is none.
 pub fn write_missing(answer: &mut [u64; 6])
     ensures { answer.new ≡ sets answer.old 0 none_numbers }
 {
-    answer[0] = 0;
-    answer[1] = 0;
-    answer[2] = 0;
-    answer[3] = 0;
-    answer[4] = 0;
-    answer[5] = 0;
+    *answer = [0; 6];
 }
 
 // Writes a builder's record as its sixteen numbers.
@@ -102,22 +94,24 @@ pub fn write_builder(b: Builder, out: &mut [u64; 16])
     ensures { out.new ≡ sets out.old 0 (builder_numbers b) }
 {
     let t = b.totals;
-    out[0] = t.keys;
-    out[1] = t.versions;
-    out[2] = t.suffix_bytes;
-    out[3] = b.used;
-    out[4] = t.min_seq;
-    out[5] = t.max_seq;
-    out[6] = t.max_key_len;
-    out[7] = t.max_value_len;
-    out[8] = t.max_versions;
-    out[9] = t.last_value_offset;
-    out[10] = b.last_key;
-    out[11] = b.anchor;
-    out[12] = 0;
-    out[13] = 0;
-    out[14] = 0;
-    out[15] = 0;
+    *out = [
+        t.keys,
+        t.versions,
+        t.suffix_bytes,
+        b.used,
+        t.min_seq,
+        t.max_seq,
+        t.max_key_len,
+        t.max_value_len,
+        t.max_versions,
+        t.last_value_offset,
+        b.last_key,
+        b.anchor,
+        0,
+        0,
+        0,
+        0,
+    ];
 }
 
 // Are the last four places 0, as in every record that an add wrote?
@@ -134,7 +128,7 @@ fn used_in(numbers: &[u64; 16]) -> u64
     if is_builder(numbers) {
         numbers[3]
     } else {
-        0xFFFF_FFFF_FFFF_FFFF
+        u64::MAX
     }
 }
 

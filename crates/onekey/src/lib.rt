@@ -8,50 +8,28 @@ ghost use Rattle.spans.specs.Internal.{Spannable};
 ghost use Rattle.onekey.specs.Internal.{VersionTold, KeyPut};
 
 use header::Opened;
+use num::LittleEndian;
+use wholepairs::Words;
 
-// What is found of a key's versions: the place of the first within the limit, that there is none, or nothing.
-#[derive(Clone, Copy)]
-enum VersionFound {
-    At(usize),
-    Absent,
-    Left,
-}
-
-// The first of some versions within a limit. Too few bytes behind what is read, and a sum beyond 64 bits, are left.
-fn first_within(section: &[u8], o: Opened, versions: usize, from: usize, limit: u64) -> VersionFound
+// The place of the first of some versions within a limit, or that there is none. `None` is left to the general walk: too few bytes behind what is
+// read, and a sum beyond 64 bits.
+fn first_within(
+    section: &[u8],
+    o: Opened,
+    versions: usize,
+    from: usize,
+    limit: u64,
+) -> Option<Option<usize>>
     requires spannable { Spannable o }
     requires from_bound { from < 2 ^ 40 }
     ensures { VersionTold result section.now o (first_within versions section.now o from limit) }
 {
     let e = o.encoding;
-    let mask = words::mask(e.seq);
-    let size = e.version();
-    let end = e.seq + e.value + e.address + 8;
-    let most = 0xFFFF_FFFF_FFFF_FFFF - o.min_seq;
-    let mut pos = from;
-    let mut left = versions;
-    while 0 < left {
-        if section.len() < pos + end {
-            return VersionFound::Left;
-        }
-        let stored = words::masked(section, pos, e.seq, mask);
-        if most < stored {
-            return VersionFound::Left;
-        }
-        if o.min_seq + stored <= limit {
-            return VersionFound::At(pos);
-        }
-        pos += size;
-        left -= 1;
+    let room = e.seq + e.value + e.address + 8;
+    match spans::place_within::<Words>(section, o, versions, from, limit, room) {
+        Ok(found) => Some(found),
+        Err(_) => None,
     }
-    VersionFound::Absent
-}
-
-// What became of a key: so many pairs of it were written, or nothing was and its caller reads it another way.
-#[derive(Clone, Copy)]
-pub enum KeyWritten {
-    Written(u64),
-    Left,
 }
 
 // The number of a width at a place, which has eight bytes: two bytes, as most sequences have, by a load of their own.
@@ -61,12 +39,12 @@ fn seq_at(section: &[u8], at: usize, width: usize) -> u64
     ensures { result ≡ le_at section.now at width }
 {
     if width == 2 {
-        return num::u16_at(section, at);
+        return u16::read(section, at) as u64;
     }
     words::masked(section, at, width, words::mask(width))
 }
 
-// Writes the value of the first of some versions within the limit, unless something is left. The first of all is mostly the one, and is asked before
+// Writes the value of the first of some versions within the limit, and answers how many pairs that are, unless something is left. The first of all is mostly the one, and is asked before
 // the others.
 fn put_first(
     section: &[u8],
@@ -75,7 +53,7 @@ fn put_first(
     from: usize,
     limit: u64,
     pairs: &mut [u64],
-) -> KeyWritten
+) -> Option<u64>
     requires spannable { Spannable o }
     requires from_bound { from < 2 ^ 39 }
     requires in_bounds { 2 ≤ length pairs.old }
@@ -83,36 +61,33 @@ fn put_first(
 {
     let e = o.encoding;
     if versions == 0 {
-        return KeyWritten::Left;
+        return None;
     }
     if section.len() < from + e.seq + e.value + e.address + 8 {
-        return KeyWritten::Left;
+        return None;
     }
     let stored = seq_at(section, from, e.seq);
     if 0xFFFF_FFFF_FFFF_FFFF - o.min_seq < stored {
-        return KeyWritten::Left;
+        return None;
     }
     if o.min_seq + stored <= limit {
-        return KeyWritten::Written(wholepairs::put_version(section, o, from, pairs, 0) as u64 / 2);
+        return Some(spans::put_version::<Words>(section, o, from, pairs, 0) as u64 / 2);
     }
-    let found = first_within(section, o, versions - 1, from + e.version(), limit);
-    match found {
-        VersionFound::At(at) => {
-            KeyWritten::Written(wholepairs::put_version(section, o, at, pairs, 0) as u64 / 2)
-        }
-        VersionFound::Absent => KeyWritten::Written(0),
-        VersionFound::Left => KeyWritten::Left,
+    match first_within(section, o, versions - 1, from + e.version(), limit)? {
+        Some(at) => Some(spans::put_version::<Words>(section, o, at, pairs, 0) as u64 / 2),
+        None => Some(0),
     }
 }
 
-// Writes the value of the key whose record stands at an address, unless something of it is left.
+// Writes the value of the key whose record stands at an address, and answers how many pairs that are; `None` writes nothing, and its caller reads
+// the key another way.
 pub fn put_key(
     section: &[u8],
     o: Opened,
     address: usize,
     limit: u64,
     pairs: &mut [u64],
-) -> KeyWritten
+) -> Option<u64>
     requires spannable { Spannable o }
     requires address_bound { address < 2 ^ 32 }
     requires in_bounds { 2 ≤ length pairs.old }
@@ -122,7 +97,7 @@ pub fn put_key(
     let pos = o.arena + address;
     let lengths = e.address + e.key;
     if section.len() < pos + lengths + e.key + 8 {
-        return KeyWritten::Left;
+        return None;
     }
     let versions = words::masked(
         section,

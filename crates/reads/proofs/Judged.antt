@@ -11,20 +11,21 @@ use native.Mathlib.Omega.{arith}
 use lib.Dec.{leb}
 use lib.ListN.{length}
 use borrow.Author.Tests.{leb-true, leb-false}
+use Rattle.std.specs.Prelude.{Some, None, Ok, Err}
 use Rattle.num.specs.Choice.{when◌then◌else◌}
 use Rattle.num.proofs.Choice.{if_true, if_false}
+use Rattle.refusal.specs.declared.Refusal.TheVariants as refusal
 use Rattle.locator.specs.declared.ValueLocator.{ValueLocator}
-use Rattle.locator.specs.declared.Located.{Located}
-use Rattle.locator.specs.declared.Located.TheVariants.{Found, Missing, Refused}
+use Rattle.locator.specs.Locator.{Located}
 use Rattle.reads.specs.Reads.{Touch, reading, Good, Touched, answering, Giving, ◌>>=◌, ◌>>◌, AllGood, SomeBad}
 
 -- an answer as a lookup gives it
 unfoldable pub located : Option ValueLocator → Located
-located none = Missing
-located (some l) = Found l
+located none = Ok None
+located (some l) = Ok (Some l)
 
 pub data Judged (s : List ℕ) (t : Touched) (r : Located) : Type 0 where
-  bad : SomeBad s t → r ≡ Refused 25 → Judged s t r
+  bad : SomeBad s t → r ≡ Err refusal.Read → Judged s t r
   good : AllGood s t → r ≡ located t.answer → Judged s t r
 
 module _ (s : List ℕ) where
@@ -39,7 +40,7 @@ module _ (s : List ℕ) where
   judged_end a e = good (λ x m. absurd (Memᴰ.not-nil m)) e
 
   -- a test
-  pub judged_test : {b c : Bool} {t : Touched} {r : Located} → c ≡ b → Judged s t r → Judged s (◌>>◌ b t) (when c then r else Missing)
+  pub judged_test : {b c : Bool} {t : Touched} {r : Located} → c ≡ b → Judged s t r → Judged s (◌>>◌ b t) (when c then r else Ok None)
   unfolding ◌>>◌ when◌then◌else◌ located
   judged_test {b = true} e j = judged_same (if_true _ _ _ e) j
   judged_test {b = false} e j = judged_end none (if_false _ _ _ e)
@@ -51,7 +52,7 @@ module _ (s : List ℕ) where
     first_good all = all x.touch (Memᴰ.head refl)
 
     -- a touch that is not good
-    judged-bad : (Good s x.touch → ⊥) → {r : Located} → r ≡ Refused 25 → Judged s (◌>>=◌ x next) r
+    judged-bad : (Good s x.touch → ⊥) → {r : Located} → r ≡ Err refusal.Read → Judged s (◌>>=◌ x next) r
     unfolding ◌>>=◌ SomeBad
     judged-bad n e = bad (x.touch, Memᴰ.head refl, n) e
 
@@ -67,14 +68,14 @@ module _ (s : List ℕ) where
 
     -- a touch that is good exactly if a test holds
     pub judged_asked : (b : Bool) (r : Located) → (b ≡ true → Good s x.touch) → (b ≡ false → Good s x.touch → ⊥)
-        → (b ≡ true → Judged s (next x.gives) r) → Judged s (◌>>=◌ x next) (when b then r else Refused 25)
+        → (b ≡ true → Judged s (next x.gives) r) → Judged s (◌>>=◌ x next) (when b then r else Err refusal.Read)
     unfolding when◌then◌else◌
     judged_asked true r g n j = judged_good (λ _. g refl) (j refl)
     judged_asked false r g n j = judged-bad (n refl) refl
 
   -- a read that ends where the section is asked
   pub judged_read : {A : Type 0} {a : A} (place bytes end : ℕ) (next : A → Touched) (r : Located) → place + bytes ≡ end → (end ≤ length s → Judged s (next a) r)
-      → Judged s (◌>>=◌ (record { touch = reading place bytes; gives = a }) next) (when leb end (length s) then r else Refused 25)
+      → Judged s (◌>>=◌ (record { touch = reading place bytes; gives = a }) next) (when leb end (length s) then r else Err refusal.Read)
   unfolding Good
   judged_read {a = a} place bytes end next r e j =
       judged_asked (record { touch = reading place bytes; gives = a }) next (leb end (length s)) r

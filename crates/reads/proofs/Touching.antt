@@ -9,9 +9,11 @@ use native.Mathlib.Omega.{arith}
 use lib.Dec.{leb, ltb, eqb}
 use lib.ListN.{length}
 use borrow.Author.Tests.{leb-false, le-leb, lt-leb, ltb-true, ltb-false}
+use Rattle.std.specs.Prelude.{Some, None, Ok, Err}
 use Rattle.num.specs.Choice.{when◌then◌else◌, both, either}
 use Rattle.num.specs.Number.{le_at}
 use Rattle.num.proofs.Choice.{false_true, if_case, if_true, if_false, second_either}
+use Rattle.refusal.specs.declared.Refusal.TheVariants as refusal
 use Rattle.point.specs.Hash.{hash_value, bucket_of, position_of, is_direct, direct_slot, slot_of, fingerprint_of}
 use Rattle.point.proofs.Slots.{slot_direct, slot_position}
 use Rattle.encoding.specs.Encoding.{header_len, key_header_len_of, version_len_of}
@@ -19,8 +21,7 @@ use Rattle.header.specs.declared.Opened.{Opened}
 use Rattle.opened.specs.Opened.{is_record_of}
 use Rattle.arena.specs.Key.{key_header_at}
 use Rattle.versions.specs.Version.{stored_seq, version_defs}
-use Rattle.locator.specs.declared.Located.{Located}
-use Rattle.locator.specs.declared.Located.TheVariants.{Found, Missing, Refused}
+use Rattle.locator.specs.Locator.{Located}
 use Rattle.locator.specs.Locator.{readable, locator_at, versions_from}
 use Rattle.lookup.specs.Lookup.{unpacked, pilot_len, pilot_offset, pilot_of, slot_len, slot_offset, key_record_of, key_record_at, slot_read_of, hash_read, locate_of}
 use Rattle.lookup.proofs.Places.{unpacked_low, pilot_packed, pilot_plain, plain_slot}
@@ -28,7 +29,7 @@ use Rattle.reads.specs.Reads.{Touched, Good, number_at, bytes_at, sum_of, ◌>>=
 use Rattle.reads.proofs.Judged.{located, Judged, judged_same, judged_end, judged_test, first_good, judged_good, judged_asked, judged_read}
 
 -- two tests asked at once
-both_asked : (a b : Bool) (r : Located) → elim (both a b) [ false ↦ Refused 25 | true ↦ r ] ≡ (when a then (when b then r else Refused 25) else Refused 25)
+both_asked : (a b : Bool) (r : Located) → elim (both a b) [ false ↦ Err refusal.Read | true ↦ r ] ≡ (when a then (when b then r else Err refusal.Read) else Err refusal.Read)
 unfolding both when◌then◌else◌
 both_asked true true r = refl
 both_asked true false r = refl
@@ -64,7 +65,7 @@ module _ (s : List ℕ) (o : Opened) (key : List ℕ) (limit : ℕ) where
   open o use {encoding as e}
 
   -- the rest of a version
-  version_judged : (at : ℕ) → Judged s (version_touched s o key limit at (stored_seq s o at)) (when readable s at (version_len_of e) then Found (locator_at s o at) else Refused 25)
+  version_judged : (at : ℕ) → Judged s (version_touched s o key limit at (stored_seq s o at)) (when readable s at (version_len_of e) then Ok (Some (locator_at s o at)) else Err refusal.Read)
   unfolding version_touched number_at readable Good version_len_of locator_at locator_of located version_defs
   version_judged at =
       judged_good s _ _ (λ all. let g = first_good s _ _ all in omega arith)
@@ -116,7 +117,7 @@ module _ (s : List ℕ) (o : Opened) (key : List ℕ) (limit : ℕ) where
       unfolding address_touched slot_read_of readable number_at slot_len
       address-judged at =
           judged_read s _ _ (at + slot_len o) _ _ (ap (λ (n : ℕ). at + n) (sym (if_true _ _ _ p)))
-          (λ _. judged_same s (if_true _ (key_record_at s o key limit _) Missing (second_either _ _ (λ f. false_true (sym f ∙ p)))) (key_judged _))
+          (λ _. judged_same s (if_true _ (key_record_at s o key limit _) (Ok None) (second_either _ _ (λ f. false_true (sym f ∙ p)))) (key_judged _))
 
       packed-judged : Judged s (packed_touched s o key limit h) (hash_read s o key limit h)
       unfolding packed_touched pilot_len slot_len

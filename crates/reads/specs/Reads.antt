@@ -1,11 +1,12 @@
 -- What a lookup touches of a section, read by read as the Rust's `locate` does, and what it gives by that (document 01, "Lookup":
 -- questions 24 and 25).
-use Rattle.std.specs.Prelude.{◌≡◌, ◌↔◌, Bool, true, false, ℕ, zero, suc, ◌+◌, ◌*◌, ◌%◌, ◌^◌, ◌<◌, ◌≤◌, eqb, leb, length, take, drop}
+use Rattle.std.specs.Prelude.{◌≡◌, ◌↔◌, Bool, true, false, ℕ, zero, suc, ◌+◌, ◌*◌, ◌%◌, ◌^◌, ◌<◌, ◌≤◌, eqb, leb, length, take, drop, Some, None, Ok, Err}
 use mathlib.Core.List.{List, [], ◌∷◌, Memᴰ}
 use Rattle.std.proofs.Math.Option.{Option, none, some}
 use Rattle.num.specs.Choice.{when◌then◌else◌}
 use Rattle.num.specs.Number.{le_at}
 use Rattle.num.specs.Order.{equal_bytes}
+use Rattle.refusal.specs.declared.Refusal.TheVariants as refusal
 use Rattle.sstable.specs.declared.Kind.TheVariants.{Put, Tombstone}
 use Rattle.point.specs.Hash.{hash_value, bucket_of, slot_of, position_of, fingerprint_of}
 use Rattle.encoding.specs.Encoding.{header_len, key_header_len_of, version_len_of, tombstone_of}
@@ -13,7 +14,6 @@ use Rattle.encoding.specs.declared.Encoding.{Encoding}
 use Rattle.header.specs.declared.Opened.{Opened}
 use Rattle.opened.specs.Opened.{is_record_of}
 use Rattle.locator.specs.declared.ValueLocator.{ValueLocator}
-use Rattle.locator.specs.declared.Located.TheVariants.{Found, Missing, Refused}
 use Rattle.lookup.specs.Lookup.{locate_of}
 
 -- a touch: a read of some bytes at a place, or a sequence sum
@@ -142,20 +142,20 @@ SomeBad s t = (x : Touch) × Memᴰ x t.touches × (Good s x → ⊥)
 
 -- a lookup gives 24 exactly if the bytes do not give the record
 unfoldable pub Gives24 : Type 0
-Gives24 = (s : List ℕ) (o : Opened) (key : List ℕ) (limit : ℕ) → (locate_of s o key limit ≡ Refused 24) ↔ (is_record_of s o ≡ false)
+Gives24 = (s : List ℕ) (o : Opened) (key : List ℕ) (limit : ℕ) → (locate_of s o key limit ≡ Err refusal.RecordGiven) ↔ (is_record_of s o ≡ false)
 
 -- it gives 25 exactly if they do and some touch is not good
 unfoldable pub Gives25 : Type 0
 Gives25 = (s : List ℕ) (o : Opened) (key : List ℕ) (limit : ℕ) → is_record_of s o ≡ true
-    → (locate_of s o key limit ≡ Refused 25) ↔ SomeBad s (lookup_touched s o key limit)
+    → (locate_of s o key limit ≡ Err refusal.Read) ↔ SomeBad s (lookup_touched s o key limit)
 
 -- it gives none exactly if every touch is good and they end with none: because fingerprint, lengths, anchor's part or suffix differ, or
 -- all versions are above the limit
 unfoldable pub GivesNone : Type 0
 GivesNone = (s : List ℕ) (o : Opened) (key : List ℕ) (limit : ℕ) → is_record_of s o ≡ true
-    → (locate_of s o key limit ≡ Missing) ↔ (AllGood s (lookup_touched s o key limit) × ((lookup_touched s o key limit).answer ≡ none))
+    → (locate_of s o key limit ≡ Ok None) ↔ (AllGood s (lookup_touched s o key limit) × ((lookup_touched s o key limit).answer ≡ none))
 
 -- it gives a version exactly if every touch is good and they end with that version
 unfoldable pub GivesVersion : Type 0
 GivesVersion = (s : List ℕ) (o : Opened) (key : List ℕ) (limit : ℕ) → is_record_of s o ≡ true → (l : ValueLocator)
-    → (locate_of s o key limit ≡ Found l) ↔ (AllGood s (lookup_touched s o key limit) × ((lookup_touched s o key limit).answer ≡ some l))
+    → (locate_of s o key limit ≡ Ok (Some l)) ↔ (AllGood s (lookup_touched s o key limit) × ((lookup_touched s o key limit).answer ≡ some l))

@@ -8,7 +8,9 @@ use native.Mathlib.Omega.{arith}
 use lib.Dec.{leb}
 use lib.ListN.{length}
 use borrow.Author.Tests.{eqb-true, eqb-false, not-true, leb-true, le-leb, lt-leb}
-use Rattle.num.specs.Answer.{Answer, refused}
+use Rattle.std.specs.Prelude.{Result, Err}
+use Rattle.refusal.specs.declared.Refusal.{Refusal}
+use Rattle.refusal.specs.declared.Refusal.TheVariants as refusal
 use Rattle.num.specs.Number.{le_at}
 use Rattle.num.proofs.Choice.{false_true, both_true, if_true, if_false}
 use Rattle.header.specs.declared.Opened.{Opened}
@@ -16,7 +18,6 @@ use Rattle.header.specs.Facts.{Header, IsRecord, from_plain, from_packed}
 use Rattle.header.proofs.Bounds.{buckets_range, scan_part_lem, scan_end}
 use Rattle.opened.specs.Opened.{is_record_of}
 use Rattle.opened.proofs.Records.{record_facts}
-use Rattle.spans.specs.declared.Spanned.{Spanned}
 use Rattle.spans.specs.Span.{Pair, scannable, scan_address, values_from, span_of, pairs_written, spanned_read}
 use Rattle.spans.specs.Internal.{Spannable}
 use Rattle.wholekeys.proofs.Whole.{table_address}
@@ -70,25 +71,25 @@ pub read_from : (s : List ℕ) (o : Opened) (first count limit : ℕ) → o.enco
 read_from s o first count limit four e = ap (values_from count s o limit) (e ∙ table_address s o four first refl)
 
 -- and what is answered of one answer is answered of the same
-pub told_of : {x y : Answer (List Pair)} → x ≡ y → (l : List ℕ) {r : Spanned} {m : List ℕ} → (r ≡ spanned_read x) × (m ≡ pairs_written x l) → (r ≡ spanned_read y) × (m ≡ pairs_written y l)
-told_of e l told = (told.0 ∙ ap spanned_read e, told.1 ∙ ap (λ (a : Answer (List Pair)). pairs_written a l) e)
+pub told_of : {x y : Result (List Pair) Refusal} → x ≡ y → (l : List ℕ) {r : Result ℕ Refusal} {m : List ℕ} → (r ≡ spanned_read x) × (m ≡ pairs_written x l) → (r ≡ spanned_read y) × (m ≡ pairs_written y l)
+told_of e l told = (told.0 ∙ ap spanned_read e, told.1 ∙ ap (λ (a : Result (List Pair) Refusal). pairs_written a l) e)
 
 module _ (s : List ℕ) (o : Opened) (first count limit places : ℕ) where
-  abbrev whole : Answer (List Pair)
+  abbrev whole : Result (List Pair) Refusal
   whole = span_of s o first count limit places
 
   module _ (r : is_record_of s o ≡ true) where
-    pub no_scan : scannable o ≡ false → whole ≡ refused 27
+    pub no_scan : scannable o ≡ false → whole ≡ Err refusal.NoSpans
     unfolding span_of
     no_scan e = if_true _ _ _ r ∙ if_false _ _ _ e
 
     module _ (q : scannable o ≡ true) where
-      pub no_keys : leb (first + count) o.count ≡ false → whole ≡ refused 28
+      pub no_keys : leb (first + count) o.count ≡ false → whole ≡ Err refusal.SpanKeys
       unfolding span_of
       no_keys e = if_true _ _ _ r ∙ if_true _ _ _ q ∙ if_false _ _ _ e
 
       module _ (k : leb (first + count) o.count ≡ true) where
-        pub no_places : places < 2 * count → whole ≡ refused 29
+        pub no_places : places < 2 * count → whole ≡ Err refusal.SpanRoom
         unfolding span_of
         no_places h = if_true _ _ _ r ∙ if_true _ _ _ q ∙ if_true _ _ _ k ∙ if_false _ _ _ (lt-leb (2 * count) places h)
 

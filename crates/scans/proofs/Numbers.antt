@@ -4,18 +4,20 @@ use mathlib.Core.Path.{◌≡◌, refl, sym, ap, ◌∙◌}
 use mathlib.Core.Bool.{true, false}
 use mathlib.Core.List.{List}
 use Prim.Native.Nat.{ℕ}
-use Rattle.num.specs.Answer.{Answer, given, refused}
+use Rattle.std.specs.Prelude.{Result, Ok, Err}
+use Rattle.refusal.specs.declared.Refusal.{Refusal}
+use Rattle.refusal.specs.declared.Refusal.TheVariants as refusal
 use Rattle.num.proofs.Choice.{if_true, if_false}
 use Rattle.header.specs.declared.Opened.{Opened}
 use Rattle.opened.specs.Opened.{is_record_of}
 use Rattle.numbers.specs.Numbers.{opened_of, is_record_numbers}
-use Rattle.spans.specs.declared.Spanned.{Spanned}
-use Rattle.spans.specs.Span.{Pair, span_of, spanned_read, spanned_number}
+use Rattle.refusal.specs.Refusal.{answer_number}
+use Rattle.spans.specs.Span.{Pair, span_of, spanned_read}
 use Rattle.scans.specs.Spans.{span_of_numbers, found_written}
 use Rattle.scans.specs.Internal.{found_read}
 
 module _ (s numbers : List ℕ) (first count limit places : ℕ) where
-  pub no_numbers : is_record_numbers numbers ≡ false → span_of_numbers s numbers first count limit places ≡ refused 24
+  pub no_numbers : is_record_numbers numbers ≡ false → span_of_numbers s numbers first count limit places ≡ Err refusal.RecordGiven
   unfolding span_of_numbers
   no_numbers e = if_false _ _ _ e
 
@@ -23,17 +25,17 @@ module _ (s numbers : List ℕ) (first count limit places : ℕ) where
   unfolding span_of_numbers
   spanned_over is same = ap (λ (p : Opened). span_of s p first count limit places) same ∙ sym (if_true (is_record_numbers numbers) _ _ is)
 
-  pub no_record : is_record_numbers numbers ≡ true → is_record_of s (opened_of numbers) ≡ false → span_of_numbers s numbers first count limit places ≡ refused 24
+  pub no_record : is_record_numbers numbers ≡ true → is_record_of s (opened_of numbers) ≡ false → span_of_numbers s numbers first count limit places ≡ Err refusal.RecordGiven
   unfolding span_of
   no_record e n = sym (spanned_over e refl) ∙ if_false _ _ _ n
 
-found_read_lem : (x : Answer (List Pair)) (found : ℕ) → found_read (spanned_read x) found ≡ found_written x found
+found_read_lem : (x : Result (List Pair) Refusal) (found : ℕ) → found_read (spanned_read x) found ≡ found_written x found
 unfolding spanned_read found_read found_written
-found_read_lem (given ps) found = refl
-found_read_lem (refused n) found = refl
+found_read_lem (Ok ps) found = refl
+found_read_lem (Err e) found = refl
 
 -- what was answered is answered of the whole span
-pub outcome : (x : Answer (List Pair)) {spanned : Spanned} → spanned ≡ spanned_read x → (found : ℕ) {r after : ℕ}
-    → (r ≡ spanned_number spanned) × (after ≡ found_read spanned found) → (r ≡ spanned_number (spanned_read x)) × (after ≡ found_written x found)
+pub outcome : (x : Result (List Pair) Refusal) {spanned : Result ℕ Refusal} → spanned ≡ spanned_read x → (found : ℕ) {r after : ℕ}
+    → (r ≡ answer_number spanned) × (after ≡ found_read spanned found) → (r ≡ answer_number (spanned_read x)) × (after ≡ found_written x found)
 outcome x e found told =
-    (told.0 ∙ ap spanned_number e, told.1 ∙ ap (λ (a : Spanned). found_read a found) e ∙ found_read_lem x found)
+    (told.0 ∙ ap answer_number e, told.1 ∙ ap (λ (a : Result ℕ Refusal). found_read a found) e ∙ found_read_lem x found)

@@ -8,23 +8,21 @@ use native.Mathlib.Omega.{arith}
 use lib.Dec.{leb}
 use lib.ListN.{length}
 use borrow.Author.Tests.{le-leb}
-use Rattle.num.specs.Answer.{Answer}
+use Rattle.std.specs.Prelude.{Option, Some, None, Result, Ok}
+use Rattle.refusal.specs.declared.Refusal.{Refusal}
 use Rattle.num.specs.Number.{le_at}
 use Rattle.header.specs.declared.Opened.{Opened}
 use Rattle.numbers.specs.Numbers.{opened_of}
-use Rattle.spans.specs.declared.Spanned.TheVariants.{Pairs}
 use Rattle.spans.specs.Span.{Pair, scan_address, values_from, pairs_written, spanned_read}
 use Rattle.spans.specs.Internal.{Spannable}
 use Rattle.onekey.specs.Internal.{KeyPut}
-use Rattle.onekey.specs.declared.KeyWritten.{KeyWritten}
-use Rattle.onekey.specs.declared.KeyWritten.TheVariants.{Written, Left}
 use Rattle.usual.specs.Internal.{ScanRecord}
 use Rattle.scans.specs.Spans.{span_of_numbers}
 use Rattle.scans.proofs.Asked.{spannable, table_inside, read_from, told_of, walked}
 use Rattle.scans.proofs.Numbers.{spanned_over}
 
 module _ (s numbers : List ℕ) (first limit places : ℕ) (r : ScanRecord s numbers first) where
-  abbrev whole : Answer (List Pair)
+  abbrev whole : Result (List Pair) Refusal
   whole = span_of_numbers s numbers first 1 limit places
 
   inside : leb (first + 1) (opened_of numbers).count ≡ true
@@ -47,13 +45,13 @@ module _ (s numbers : List ℕ) (first limit places : ℕ) (r : ScanRecord s num
         ∙ walked s (opened_of numbers) first 1 limit places r.held r.scans inside (omega arith)
         ∙ spanned_over s numbers first 1 limit places r.numbers refl
 
-module _ (a : Answer (List Pair)) (before after : List ℕ) {v : KeyWritten} (put : KeyPut v a before after) where
+module _ (a : Result (List Pair) Refusal) (before after : List ℕ) {v : Option ℕ} (put : KeyPut v a before after) where
   -- what the key's reader wrote is what the span gives
-  pub written_told : {n : ℕ} → v ≡ Written n → (x : Answer (List Pair)) → a ≡ x → (Pairs n ≡ spanned_read x) × (after ≡ pairs_written x before)
+  pub written_told : {n : ℕ} → v ≡ Some n → (x : Result (List Pair) Refusal) → a ≡ x → (Ok n ≡ spanned_read x) × (after ≡ pairs_written x before)
   unfolding KeyPut
-  written_told ev x e = told_of e before (subst (λ (k : KeyWritten). KeyPut k a before after) ev put)
+  written_told ev x e = told_of e before (subst (λ (k : Option ℕ). KeyPut k a before after) ev put)
 
   -- and what it leaves it keeps
-  pub left_kept : v ≡ Left → after ≡ before
+  pub left_kept : v ≡ None → after ≡ before
   unfolding KeyPut
-  left_kept ev = subst (λ (k : KeyWritten). KeyPut k a before after) ev put
+  left_kept ev = subst (λ (k : Option ℕ). KeyPut k a before after) ev put

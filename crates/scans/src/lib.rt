@@ -3,8 +3,9 @@
 
 ghost use Rattle.std.specs.Prelude.{◌≡◌, true, ◌+◌, ◌*◌, ◌≤◌, leb, length};
 ghost use Rattle.opened.specs.Opened.{is_record_of};
-ghost use Rattle.spans.specs.Span.{scannable, scan_address, values_from, span_of, pairs_written, spanned_read, spanned_number};
+ghost use Rattle.spans.specs.Span.{scannable, scan_address, values_from, span_of, pairs_written, spanned_read};
 ghost use Rattle.spans.specs.Internal.{Spannable};
+ghost use Rattle.refusal.specs.Refusal.{answer_number};
 ghost use Rattle.numbers.specs.Numbers.{opened_of};
 ghost use Rattle.onekey.specs.Internal.{KeyPut};
 ghost use Rattle.usual.specs.Internal.{ScanRecord};
@@ -13,8 +14,8 @@ ghost use Rattle.scans.specs.Internal.{found_read};
 
 use encoding::Encoding;
 use header::Opened;
-use onekey::KeyWritten;
-use spans::Spanned;
+use num::LittleEndian;
+use refusal::Refusal;
 
 // Question 27.
 fn scannable(o: Opened) -> bool
@@ -49,7 +50,7 @@ fn walk_keys(
     count: u64,
     limit: u64,
     pairs: &mut [u64],
-) -> Spanned
+) -> Result<u64, Refusal>
     requires spannable { Spannable (opened_of numbers.now) }
     requires count_in_bounds { (opened_of numbers.now).scan + 24 + 4 * (first + count) + 4 ≤ length section.now }
     requires count_in_bounds_2 { 2 * count ≤ length pairs.old }
@@ -58,7 +59,7 @@ fn walk_keys(
 {
     let o = numbers::read_record(numbers);
     let table = o.scan + Encoding::SCAN_HEADER + 4 * first as usize;
-    let address = num::u32_at(section, table) as usize;
+    let address = u32::read(section, table) as usize;
     spans::values_from(section, o, count, address, limit, pairs)
 }
 
@@ -70,7 +71,7 @@ fn scan_values(
     count: u64,
     limit: u64,
     pairs: &mut [u64],
-) -> Spanned
+) -> Result<u64, Refusal>
     requires spannable { Spannable (opened_of numbers.now) }
     requires count_in_bounds { (opened_of numbers.now).scan + 24 + 4 * (first + count) + 4 ≤ length section.now }
     requires count_in_bounds_2 { 2 * count ≤ length pairs.old }
@@ -79,7 +80,7 @@ fn scan_values(
 {
     let o = numbers::read_record(numbers);
     if wholekeys::keys_whole(section, o, first, count) {
-        return Spanned::Pairs(wholepairs::put_whole(section, o, first, count, limit, pairs));
+        return Ok(wholepairs::put_whole(section, o, first, count, limit, pairs));
     }
     walk_keys(section, numbers, first, count, limit, pairs)
 }
@@ -92,7 +93,7 @@ fn record_span(
     count: u64,
     limit: u64,
     pairs: &mut [u64],
-) -> Spanned
+) -> Result<u64, Refusal>
     requires numbers_value { is_record_of section.now (opened_of numbers.now) ≡ true }
     requires numbers_value_2 { scannable (opened_of numbers.now) ≡ true }
     ensures { (result ≡ spanned_read (span_of section.now (opened_of numbers.now) first count limit (length pairs.old)))
@@ -100,10 +101,10 @@ fn record_span(
 {
     let o = numbers::read_record(numbers);
     if !keys_inside(o, first, count) {
-        return Spanned::Refused(28);
+        return Err(Refusal::SpanKeys);
     }
     if pairs.len() as u64 / 2 < count {
-        return Spanned::Refused(29);
+        return Err(Refusal::SpanRoom);
     }
     scan_values(section, numbers, first, count, limit, pairs)
 }
@@ -116,33 +117,33 @@ fn general_span(
     count: u64,
     limit: u64,
     pairs: &mut [u64],
-) -> Spanned
+) -> Result<u64, Refusal>
     ensures { (result ≡ spanned_read (span_of_numbers section.now numbers.now first count limit (length pairs.old)))
         × (pairs.new ≡ pairs_written (span_of_numbers section.now numbers.now first count limit (length pairs.old)) pairs.old) }
 {
     let o = numbers::read_record(numbers);
     if !numbers::is_record_numbers(numbers) {
-        return Spanned::Refused(24);
+        return Err(Refusal::RecordGiven);
     }
     if !opened::is_record(section, o) {
-        return Spanned::Refused(24);
+        return Err(Refusal::RecordGiven);
     }
     if !scannable(o) {
-        return Spanned::Refused(27);
+        return Err(Refusal::NoSpans);
     }
     record_span(section, numbers, first, count, limit, pairs)
 }
 
 // What a span answers: 0 and how many pairs there are, or the number of the question that failed.
-fn answered(spanned: Spanned, found: &mut u64) -> u64
-    ensures { (result ≡ spanned_number spanned) × (found.new ≡ found_read spanned found.old) }
+fn answered(spanned: Result<u64, Refusal>, found: &mut u64) -> u64
+    ensures { (result ≡ answer_number spanned) × (found.new ≡ found_read spanned found.old) }
 {
     match spanned {
-        Spanned::Pairs(n) => {
+        Ok(n) => {
             *found = n;
             0
         }
-        Spanned::Refused(n) => n,
+        Err(refusal) => refusal.number(),
     }
 }
 
@@ -153,16 +154,16 @@ fn one_key(
     first: u64,
     limit: u64,
     pairs: &mut [u64],
-) -> KeyWritten
+) -> Option<u64>
     requires { ScanRecord section.now numbers.now first }
     ensures { KeyPut result (span_of_numbers section.now numbers.now first 1 limit (length pairs.old)) pairs.old pairs.new }
 {
     if pairs.len() < 2 {
-        return KeyWritten::Left;
+        return None;
     }
     let o = numbers::read_record(numbers);
     let table = o.scan + Encoding::SCAN_HEADER + 4 * first as usize;
-    let address = num::u32_at(section, table) as usize;
+    let address = u32::read(section, table) as usize;
     onekey::put_key(section, o, address, limit, pairs)
 }
 
@@ -176,25 +177,25 @@ pub fn span(
     pairs: &mut [u64],
     found: &mut u64,
 ) -> u64
-    ensures { (result ≡ spanned_number (spanned_read (span_of_numbers section.now numbers.now first count limit (length pairs.old))))
+    ensures { (result ≡ answer_number (spanned_read (span_of_numbers section.now numbers.now first count limit (length pairs.old))))
         × (pairs.new ≡ pairs_written (span_of_numbers section.now numbers.now first count limit (length pairs.old)) pairs.old)
         × (found.new ≡ found_written (span_of_numbers section.now numbers.now first count limit (length pairs.old)) found.old) }
 {
     if !usual::is_scan_record(section, numbers, first) {
-        let spanned = general_span(section, numbers, first, count, limit, pairs);
-        return answered(spanned, found);
+        return answered(
+            general_span(section, numbers, first, count, limit, pairs),
+            found,
+        );
     }
     let is_one = count == 1;
     if !is_one {
-        let spanned = record_span(section, numbers, first, count, limit, pairs);
-        return answered(spanned, found);
+        return answered(
+            record_span(section, numbers, first, count, limit, pairs),
+            found,
+        );
     }
-    let written = one_key(section, numbers, first, limit, pairs);
-    match written {
-        KeyWritten::Written(n) => answered(Spanned::Pairs(n), found),
-        KeyWritten::Left => {
-            let spanned = record_span(section, numbers, first, 1, limit, pairs);
-            answered(spanned, found)
-        }
+    match one_key(section, numbers, first, limit, pairs) {
+        Some(n) => answered(Ok(n), found),
+        None => answered(record_span(section, numbers, first, 1, limit, pairs), found),
     }
 }

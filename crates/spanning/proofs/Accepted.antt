@@ -12,11 +12,13 @@ use lib.Dec.{leb}
 use lib.ListN.{length, get_or, take, drop}
 use lib.Seq.{take_all}
 use borrow.Author.Tests.{le-leb, lt-leb, leb-true, leb-false, eq-eqb, ne_eqb}
-use Rattle.num.specs.Answer.{given, refused}
+use Rattle.std.specs.Prelude.{Some, None, Ok, Err}
 use Rattle.num.specs.Number.{Bytes}
 use Rattle.num.specs.Order.{less_than}
 use Rattle.num.proofs.Choice.{false_true, never_true, true_both, if_true, if_false}
 use Rattle.num.proofs.Lists.{index_member}
+use Rattle.refusal.specs.declared.Refusal.{Refusal}
+use Rattle.refusal.specs.declared.Refusal.TheVariants as refusal
 use Rattle.sstable.specs.declared.Kind.{Kind}
 use Rattle.sstable.specs.declared.Kind.TheVariants.{Put, Tombstone}
 use Rattle.block.specs.Walk.{Entry}
@@ -31,8 +33,7 @@ use Rattle.admission.specs.Admits.{Admits, OpensExactly, PacksExactly}
 use Rattle.admission.proofs.Opening.{open_exactly}
 use Rattle.admission.proofs.PackedOpening.{open_packed_exactly}
 use Rattle.locator.specs.declared.ValueLocator.{ValueLocator}
-use Rattle.locator.specs.declared.Located.{Located}
-use Rattle.locator.specs.declared.Located.TheVariants.{Found, Missing, Refused}
+use Rattle.locator.specs.Locator.{Located}
 use Rattle.locating.specs.Store.{LinkerStore, Store, plain_opening, packed_opening, Version, version_in, store_versions, Holds}
 use Rattle.locating.specs.Looks.{lookup, Greatest, Answers, Looks, LooksExactly}
 use Rattle.locating.proofs.Plain.{plain_indexed}
@@ -47,7 +48,7 @@ use Rattle.spanning.proofs.Places.{found_lies, record_one}
 -- ---- what the lookups of some keys find is what those keys give
 
 module _ (t : LinkerStore) (st : Store t) (limit : ℕ) where
-  found_gives : (key : List ℕ) (v : Version) (l : ValueLocator) → lookup t key limit ≡ Found l → Greatest t key limit v → Answers t v l
+  found_gives : (key : List ℕ) (v : Version) (l : ValueLocator) → lookup t key limit ≡ Ok (Some l) → Greatest t key limit v → Answers t v l
       → (k : Kind) → l.kind ≡ k → KeyGives t limit key (unless_tombstone k (record { offset = l.offset; len = l.len }))
   unfolding unless_tombstone
   found_gives key v l f g a Put e = value v _ g (sym a.kind ∙ e) (found_lies t (store_indexed t st) key limit v l f g a)
@@ -55,9 +56,9 @@ module _ (t : LinkerStore) (st : Store t) (limit : ℕ) where
 
   key_gives : (key : List ℕ) → Looks t key limit → (r : Located) → lookup t key limit ≡ r → KeyGives t limit key (located_pairs r)
   unfolding located_pairs
-  key_gives key p Missing e = none (p.none.0 e)
-  key_gives key p (Found l) e = let f = p.found l e in found_gives key f.0 l e f.1 f.2 l.kind refl
-  key_gives key p (Refused n) e = absurd (p.never n e)
+  key_gives key p (Ok None) e = none (p.none.0 e)
+  key_gives key p (Ok (Some l)) e = let f = p.found l e in found_gives key f.0 l e f.1 f.2 l.kind refl
+  key_gives key p (Err n) e = absurd (p.never n e)
 
   lookups_give : (keys : List (List ℕ)) → SpanGives t limit keys (lookup_pairs t limit keys)
   unfolding lookup_pairs LooksExactly
@@ -163,24 +164,24 @@ module _ (t : LinkerStore) (st : Store t) (first count limit places : ℕ) where
   is_record : is_record_of s o ≡ true
   is_record = (store_indexed t st).is_record
 
-  span_27 : (Scans t → ⊥) → span t first count limit places ≡ refused 27
+  span_27 : (Scans t → ⊥) → span t first count limit places ≡ Err refusal.NoSpans
   unfolding span span_of
   span_27 n = if_true _ _ _ is_record ∙ if_false _ _ _ (never_true _ (λ e. n (yes_scans t e)))
 
   module _ (c : Scans t) where
-    span-28 : o.count < first + count → span t first count limit places ≡ refused 28
+    span-28 : o.count < first + count → span t first count limit places ≡ Err refusal.SpanKeys
     unfolding span span_of
     span-28 h = if_true _ _ _ is_record ∙ if_true _ _ _ (scans_yes t c) ∙ if_false _ _ _ (lt-leb (first + count) o.count h)
 
     module _ (k : first + count ≤ o.count) where
-      span-29 : places < 2 * count → span t first count limit places ≡ refused 29
+      span-29 : places < 2 * count → span t first count limit places ≡ Err refusal.SpanRoom
       unfolding span span_of
       span-29 h =
           if_true _ _ _ is_record ∙ if_true _ _ _ (scans_yes t c) ∙ if_true _ _ _ (le-leb (first + count) o.count k)
           ∙ if_false _ _ _ (lt-leb (2 * count) places h)
 
       -- the keys spanned are looked up
-      span-given : Bytes s → 2 * count ≤ places → span t first count limit places ≡ given (lookup_pairs t limit (keys_spanned t first count))
+      span-given : Bytes s → 2 * count ≤ places → span t first count limit places ≡ Ok (lookup_pairs t limit (keys_spanned t first count))
       unfolding span span_of keys_spanned
       span-given b h =
           let p = plain t st c.plain in
@@ -190,13 +191,13 @@ module _ (t : LinkerStore) (st : Store t) (first count limit places : ℕ) where
           if_true _ _ _ is_record ∙ if_true _ _ _ (scans_yes t c) ∙ if_true _ _ _ (le-leb (first + count) o.count k)
           ∙ if_true _ _ _ (le-leb (2 * count) places h)
           ∙ scanned_found t b c p.admits.agrees x first count limit k
-          ∙ ap (λ (l : List (List ℕ)). given (lookup_pairs t limit l))
+          ∙ ap (λ (l : List (List ℕ)). Ok (lookup_pairs t limit l))
           (sym (ap (λ (l : List (List ℕ)). take count (drop first l)) (store_keys_lem t a) ∙ keys_part s o o.count first count (o.count - (first + count)) e))
 
 -- the answers of a span
 data Outcome (t : LinkerStore) (first count limit places : ℕ) : Type 0 where
   accepted : Scans t → first + count ≤ length (store_keys t) → 2 * count ≤ places → Outcome t first count limit places
-  declined : (n : ℕ) → (n ≡ 27) ⊎ (n ≡ 28) ⊎ (n ≡ 29) → span t first count limit places ≡ refused n → Outcome t first count limit places
+  declined : (n : Refusal) → (n ≡ refusal.NoSpans) ⊎ (n ≡ refusal.SpanKeys) ⊎ (n ≡ refusal.SpanRoom) → span t first count limit places ≡ Err n → Outcome t first count limit places
 
 module _ (t : LinkerStore) (st : Store t) (first count limit places : ℕ) where
   open t use {opened as o}
@@ -209,26 +210,26 @@ module _ (t : LinkerStore) (st : Store t) (first count limit places : ℕ) where
 
       places_asked : Scans t → first + count ≤ o.count → (y : Bool) → leb (2 * count) places ≡ y → Outcome t first count limit places
       places_asked c k true p = accepted c (omega (arith, l)) (leb-true _ _ p)
-      places_asked c k false p = declined 29 (inr (inr refl)) (span-29 t st first count limit places c k (leb-false _ _ p))
+      places_asked c k false p = declined refusal.SpanRoom (inr (inr refl)) (span-29 t st first count limit places c k (leb-false _ _ p))
 
       keys_asked : Scans t → (y : Bool) → leb (first + count) o.count ≡ y → Outcome t first count limit places
       keys_asked c true p = places_asked c (leb-true _ _ p) (leb (2 * count) places) refl
-      keys_asked c false p = declined 28 (inr (inl refl)) (span-28 t st first count limit places c (leb-false _ _ p))
+      keys_asked c false p = declined refusal.SpanKeys (inr (inl refl)) (span-28 t st first count limit places c (leb-false _ _ p))
 
       scans : (y : Bool) → scannable o ≡ y → Outcome t first count limit places
       scans true p = keys_asked (yes_scans t p) (leb (first + count) o.count) refl
-      scans false p = declined 27 (inl refl) (span_27 t st first count limit places (λ c. false_true (sym p ∙ scans_yes t c)))
+      scans false p = declined refusal.NoSpans (inl refl) (span_27 t st first count limit places (λ c. false_true (sym p ∙ scans_yes t c)))
 
   module _ (b : Bytes t.bytes) where
     span-gives : Scans t → first + count ≤ length (store_keys t) → 2 * count ≤ places
-        → (ps : List Pair) × (span t first count limit places ≡ given ps) × SpanGives t limit (keys_spanned t first count) ps
+        → (ps : List Pair) × (span t first count limit places ≡ Ok ps) × SpanGives t limit (keys_spanned t first count) ps
     span-gives c k h =
         let l = keys_count t (arena t st) in
         (_, span-given t st first count limit places c (omega arith) b h, lookups_give t st limit (keys_spanned t first count))
 
-    own-number : (n : ℕ) → span t first count limit places ≡ refused n → Outcome t first count limit places → (n ≡ 27) ⊎ (n ≡ 28) ⊎ (n ≡ 29)
+    own-number : (n : Refusal) → span t first count limit places ≡ Err n → Outcome t first count limit places → (n ≡ refusal.NoSpans) ⊎ (n ≡ refusal.SpanKeys) ⊎ (n ≡ refusal.SpanRoom)
     own-number n e (accepted c k h) = let g = (span-gives c k h).1 in absurd (let z : ◌≡◌ {A = ℕ} 0 1 = cc in omega arith)
-    own-number n e (declined m w f) = let same : m ≡ n = cc in subst (λ (i : ℕ). (i ≡ 27) ⊎ (i ≡ 28) ⊎ (i ≡ 29)) same w
+    own-number n e (declined m w f) = let same : m ≡ n = cc in subst (λ (i : Refusal). (i ≡ refusal.NoSpans) ⊎ (i ≡ refusal.SpanKeys) ⊎ (i ≡ refusal.SpanRoom)) same w
 
     spans : Spans t first count limit places
     spans =
@@ -258,4 +259,4 @@ unfolding SpanOfAll SpanIsLookups keys_spanned
 span_of_all t st b c limit places h =
     let l = keys_count t (arena t st) in
     span_is_lookups t st b c 0 t.opened.count limit places (omega arith) h
-    ∙ ap (λ (keys : List (List ℕ)). given (lookup_pairs t limit keys)) (take_all t.opened.count (store_keys t) (omega arith))
+    ∙ ap (λ (keys : List (List ℕ)). Ok (lookup_pairs t limit keys)) (take_all t.opened.count (store_keys t) (omega arith))

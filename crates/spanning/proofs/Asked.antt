@@ -11,14 +11,17 @@ use lib.Dec.{leb}
 use lib.ListN.{length, get_or, drop}
 use lib.Seq.{sets, length-sets}
 use borrow.Author.Tests.{le-leb, leb-true, eqb-false, eq-eqb, ne_eqb}
-use Rattle.num.specs.Answer.{Answer, given, refused}
+use Rattle.std.specs.Prelude.{Result, Ok, Err}
 use Rattle.num.specs.Choice.{when◌then◌else◌, both}
 use Rattle.num.proofs.Lists.{get_d-sets_inside, drop_sets_behind}
 use Rattle.num.proofs.Choice.{both_true, true_both, if_true, if_false, if_case, never_true}
+use Rattle.refusal.specs.Refusal.{refusal_number, answer_number}
+use Rattle.refusal.specs.declared.Refusal.{Refusal}
+use Rattle.refusal.specs.declared.Refusal.TheVariants as refusal
 use Rattle.header.specs.declared.Opened.{Opened}
 use Rattle.opened.specs.Opened.{is_record_of}
 use Rattle.numbers.specs.Numbers.{opened_of, is_record_numbers}
-use Rattle.spans.specs.Span.{Pair, scannable, scan_address, span_of, values_from, pair_numbers, pairs_written, spanned_read, spanned_number}
+use Rattle.spans.specs.Span.{Pair, scannable, scan_address, span_of, values_from, pair_numbers, pairs_written, spanned_read}
 use Rattle.spans.proofs.Keys.{numbers_length}
 use Rattle.scans.proofs.Asked.{scanned}
 use Rattle.scans.specs.Spans.{span_of_numbers, found_written}
@@ -28,69 +31,69 @@ use Rattle.spanning.specs.Reads.{RecordsGive}
 use Rattle.spanning.specs.Calls.{spanned, SpanCall, pair_at, PairsLeft, NumbersScan, KeysInside, PlacesEnough, Passes, ReadFails, SpanAsked}
 use Rattle.spanning.proofs.Judged.{Judged, bad, good, span_judged, keys_few}
 
-number : Answer (List Pair) → ℕ
-number a = spanned_number (spanned_read a)
+number : Result (List Pair) Refusal → ℕ
+number a = answer_number (spanned_read a)
 
 -- ---- one question
 
 -- asked twice with one number
-joined : (a b : Bool) (x y : Answer (List Pair)) → (when a then (when b then x else y) else y) ≡ (when both a b then x else y)
+joined : (a b : Bool) (x y : Result (List Pair) Refusal) → (when a then (when b then x else y) else y) ≡ (when both a b then x else y)
 unfolding when◌then◌else◌ both
 joined true b x y = refl
 joined false b x y = refl
 
 -- a number that neither the question nor what is behind it gives
-other : (t : Bool) (n : ℕ) (rest : Answer (List Pair)) (k : ℕ) → (n ≡ k → ⊥) → (number rest ≡ k → ⊥) → number (when t then rest else refused n) ≡ k → ⊥
-unfolding number spanned_number spanned_read
-other t n rest k w r = if_case (λ (a : Answer (List Pair)). number a ≡ k → ⊥) t rest (refused n) (λ _. r) (λ _. w)
+other : (t : Bool) (n : Refusal) (rest : Result (List Pair) Refusal) (k : ℕ) → (refusal_number n ≡ k → ⊥) → (number rest ≡ k → ⊥) → number (when t then rest else Err n) ≡ k → ⊥
+unfolding number answer_number spanned_read
+other t n rest k w r = if_case (λ (a : Result (List Pair) Refusal). number a ≡ k → ⊥) t rest (Err n) (λ _. r) (λ _. w)
 
-module _ {P : Type 0} (t : Bool) (n : ℕ) (rest : Answer (List Pair)) (asked : (t ≡ true) ↔ P) where
-  yes : P → number (when t then rest else refused n) ≡ number rest
-  yes p = ap number (if_true t rest (refused n) (asked.1 p))
+module _ {P : Type 0} (t : Bool) (n : Refusal) (rest : Result (List Pair) Refusal) (asked : (t ≡ true) ↔ P) where
+  yes : P → number (when t then rest else Err n) ≡ number rest
+  yes p = ap number (if_true t rest (Err n) (asked.1 p))
 
   -- its own number is given exactly if the answer is no
-  own : (number rest ≡ n → ⊥) → (number (when t then rest else refused n) ≡ n) ↔ (P → ⊥)
-  unfolding number spanned_number spanned_read
-  own w = (λ e p. w (sym (yes p) ∙ e), λ x. ap number (if_false t rest (refused n) (never_true t (λ e. x (asked.0 e)))))
+  own : (number rest ≡ refusal_number n → ⊥) → (number (when t then rest else Err n) ≡ refusal_number n) ↔ (P → ⊥)
+  unfolding number answer_number spanned_read
+  own w = (λ e p. w (sym (yes p) ∙ e), λ x. ap number (if_false t rest (Err n) (never_true t (λ e. x (asked.0 e)))))
 
   -- another one exactly if the answer is yes, and what is behind gives it
-  behind : (k : ℕ) → (n ≡ k → ⊥) → (number (when t then rest else refused n) ≡ k) ↔ (P × (number rest ≡ k))
-  unfolding number spanned_number spanned_read
+  behind : (k : ℕ) → (refusal_number n ≡ k → ⊥) → (number (when t then rest else Err n) ≡ k) ↔ (P × (number rest ≡ k))
+  unfolding number answer_number spanned_read
   behind k w = (λ e. go t refl e, λ q. yes q.0 ∙ q.1)
     where
-      go : (b : Bool) → t ≡ b → number (when t then rest else refused n) ≡ k → P × (number rest ≡ k)
+      go : (b : Bool) → t ≡ b → number (when t then rest else Err n) ≡ k → P × (number rest ≡ k)
       go true p e = (asked.0 p, sym (yes (asked.0 p)) ∙ e)
-      go false p e = absurd (w (sym (ap number (if_false t rest (refused n) p)) ∙ e))
+      go false p e = absurd (w (sym (ap number (if_false t rest (Err n) p)) ∙ e))
 
 -- ---- the reads
 
-module _ {F : Type 0} {G : List Pair → Type 0} {a : Answer (List Pair)} where
+module _ {F : Type 0} {G : List Pair → Type 0} {a : Result (List Pair) Refusal} where
   -- 25 exactly if one of them fails, 0 if none does
   judged_25 : Judged F G a → (number a ≡ 25) ↔ F
-  unfolding number spanned_number spanned_read
+  unfolding number answer_number spanned_read
   judged_25 (bad f e) = (λ _. f, λ _. ap number e)
   judged_25 (good ps n g e) = (λ i. absurd (let z = sym (ap number e) ∙ i in omega arith), λ f. absurd (n f))
 
   judged_0 : Judged F G a → (number a ≡ 0) ↔ (F → ⊥)
-  unfolding number spanned_number spanned_read
+  unfolding number answer_number spanned_read
   judged_0 (bad f e) = (λ i. absurd (let z = sym (ap number e) ∙ i in omega arith), λ n. absurd (n f))
   judged_0 (good ps n g e) = (λ _. n, λ _. ap number e)
 
   -- then the pairs are given
-  judged_pairs : Judged F G a → number a ≡ 0 → (ps : List Pair) × G ps × (a ≡ given ps)
-  unfolding number spanned_number spanned_read
+  judged_pairs : Judged F G a → number a ≡ 0 → (ps : List Pair) × G ps × (a ≡ Ok ps)
+  unfolding number answer_number spanned_read
   judged_pairs (bad f e) z = absurd (let y = sym (ap number e) ∙ z in omega arith)
   judged_pairs (good ps n g e) z = (ps, g, e)
 
   -- there is no other number
-  judged_number : Judged F G a → (spanned_number (spanned_read a) ≡ 0) ⊎ (spanned_number (spanned_read a) ≡ 25)
-  unfolding spanned_number spanned_read
-  judged_number (bad f e) = inr (ap (λ (x : Answer (List Pair)). spanned_number (spanned_read x)) e)
-  judged_number (good ps n g e) = inl (ap (λ (x : Answer (List Pair)). spanned_number (spanned_read x)) e)
+  judged_number : Judged F G a → (answer_number (spanned_read a) ≡ 0) ⊎ (answer_number (spanned_read a) ≡ 25)
+  unfolding answer_number spanned_read
+  judged_number (bad f e) = inr (ap (λ (x : Result (List Pair) Refusal). answer_number (spanned_read x)) e)
+  judged_number (good ps n g e) = inl (ap (λ (x : Result (List Pair) Refusal). answer_number (spanned_read x)) e)
 
 pub read_number : (s : List ℕ) (o : Opened) (first count limit : ℕ)
-    → (spanned_number (spanned_read (values_from count s o limit (scan_address s o first))) ≡ 0)
-    ⊎ (spanned_number (spanned_read (values_from count s o limit (scan_address s o first))) ≡ 25)
+    → (answer_number (spanned_read (values_from count s o limit (scan_address s o first))) ≡ 0)
+    ⊎ (answer_number (spanned_read (values_from count s o limit (scan_address s o first))) ≡ 25)
 read_number s o first count limit = judged_number (span_judged s o first limit count)
 
 -- ---- the questions in their order
@@ -116,33 +119,33 @@ module _ (h : Holding) (first count limit places : ℕ) where
   abbrev o : Opened
   o = opened_of h.numbers
 
-  abbrev read : Answer (List Pair)
+  abbrev read : Result (List Pair) Refusal
   read = values_from count h.bytes o limit (scan_address h.bytes o first)
 
   abbrev t29 : Bool
   t29 = leb (2 * count) places
 
-  abbrev from29 : Answer (List Pair)
-  from29 = when t29 then read else refused 29
+  abbrev from29 : Result (List Pair) Refusal
+  from29 = when t29 then read else Err refusal.SpanRoom
 
   abbrev t28 : Bool
   t28 = leb (first + count) o.count
 
-  abbrev from28 : Answer (List Pair)
-  from28 = when t28 then from29 else refused 28
+  abbrev from28 : Result (List Pair) Refusal
+  from28 = when t28 then from29 else Err refusal.SpanKeys
 
-  abbrev from27 : Answer (List Pair)
-  from27 = when scannable o then from28 else refused 27
+  abbrev from27 : Result (List Pair) Refusal
+  from27 = when scannable o then from28 else Err refusal.NoSpans
 
   abbrev t24 : Bool
   t24 = both (is_record_numbers h.numbers) (is_record_of h.bytes o)
 
-  abbrev from24 : Answer (List Pair)
-  from24 = when t24 then from27 else refused 24
+  abbrev from24 : Result (List Pair) Refusal
+  from24 = when t24 then from27 else Err refusal.RecordGiven
 
   questions : span_of_numbers h.bytes h.numbers first count limit places ≡ from24
   unfolding span_of_numbers span_of
-  questions = joined (is_record_numbers h.numbers) (is_record_of h.bytes o) from27 (refused 24)
+  questions = joined (is_record_numbers h.numbers) (is_record_of h.bytes o) from27 (Err refusal.RecordGiven)
 
   -- each test says what its plain terms say
 
@@ -170,41 +173,41 @@ module _ (h : Holding) (first count limit places : ℕ) where
       go (inr f) = w (sym e ∙ f)
 
   not_29 : (k : ℕ) → (k ≡ 0 → ⊥) → (k ≡ 25 → ⊥) → (29 ≡ k → ⊥) → number from29 ≡ k → ⊥
-  not_29 k z w n = other t29 29 read k n (not_read k z w)
+  not_29 k z w n = other t29 refusal.SpanRoom read k n (not_read k z w)
 
   not_28 : (k : ℕ) → (k ≡ 0 → ⊥) → (k ≡ 25 → ⊥) → (29 ≡ k → ⊥) → (28 ≡ k → ⊥) → number from28 ≡ k → ⊥
-  not_28 k z w n m = other t28 28 from29 k m (not_29 k z w n)
+  not_28 k z w n m = other t28 refusal.SpanKeys from29 k m (not_29 k z w n)
 
   -- the equivalences
 
   result_24 : (number from24 ≡ 24) ↔ (GivesRecord h → ⊥)
   result_24 =
-      own t24 24 from27 record_asked_lem
-      (other (scannable o) 27 from28 24 (λ e. omega arith) (not_28 24 (λ e. omega arith) (λ e. omega arith) (λ e. omega arith) (λ e. omega arith)))
+      own t24 refusal.RecordGiven from27 record_asked_lem
+      (other (scannable o) refusal.NoSpans from28 24 (λ e. omega arith) (not_28 24 (λ e. omega arith) (λ e. omega arith) (λ e. omega arith) (λ e. omega arith)))
 
   result_27 : (number from24 ≡ 27) ↔ (GivesRecord h × (NumbersScan h.numbers → ⊥))
   result_27 =
-      let f = behind t24 24 from27 record_asked_lem 27 (λ e. omega arith) in
+      let f = behind t24 refusal.RecordGiven from27 record_asked_lem 27 (λ e. omega arith) in
       let n = not_28 27 (λ e. omega arith) (λ e. omega arith) (λ e. omega arith) (λ e. omega arith) in (
-        λ e. let q = f.0 e in (q.0, (own (scannable o) 27 from28 (scan_asked h q.0) n).0 q.1),
-        λ q. f.1 (q.0, (own (scannable o) 27 from28 (scan_asked h q.0) n).1 q.1),
+        λ e. let q = f.0 e in (q.0, (own (scannable o) refusal.NoSpans from28 (scan_asked h q.0) n).0 q.1),
+        λ q. f.1 (q.0, (own (scannable o) refusal.NoSpans from28 (scan_asked h q.0) n).1 q.1),
       )
 
   -- another number comes from 28 on exactly if all before is answered by yes
   from_28 : (k : ℕ) → (24 ≡ k → ⊥) → (27 ≡ k → ⊥) → (number from24 ≡ k) ↔ (GivesRecord h × NumbersScan h.numbers × (number from28 ≡ k))
   from_28 k a b =
-      let f = behind t24 24 from27 record_asked_lem k a in (
+      let f = behind t24 refusal.RecordGiven from27 record_asked_lem k a in (
         λ e.
             let p = f.0 e in
-            let q = (behind (scannable o) 27 from28 (scan_asked h p.0) k b).0 p.1 in
+            let q = (behind (scannable o) refusal.NoSpans from28 (scan_asked h p.0) k b).0 p.1 in
             (p.0, q.0, q.1),
-        λ q. f.1 (q.0, (behind (scannable o) 27 from28 (scan_asked h q.0) k b).1 (q.1, q.2)),
+        λ q. f.1 (q.0, (behind (scannable o) refusal.NoSpans from28 (scan_asked h q.0) k b).1 (q.1, q.2)),
       )
 
   result_28 : (number from24 ≡ 28) ↔ (GivesRecord h × NumbersScan h.numbers × (KeysInside h first count → ⊥))
   result_28 =
       let f = from_28 28 (λ e. omega arith) (λ e. omega arith) in
-      let w = own t28 28 from29 keys_asked (not_29 28 (λ e. omega arith) (λ e. omega arith) (λ e. omega arith)) in
+      let w = own t28 refusal.SpanKeys from29 keys_asked (not_29 28 (λ e. omega arith) (λ e. omega arith) (λ e. omega arith)) in
       (λ e. let q = f.0 e in (q.0, q.1, w.0 q.2), λ q. f.1 (q.0, q.1, w.1 q.2))
 
   -- and from 29 on
@@ -212,7 +215,7 @@ module _ (h : Holding) (first count limit places : ℕ) where
       → (number from24 ≡ k) ↔ (GivesRecord h × NumbersScan h.numbers × KeysInside h first count × (number from29 ≡ k))
   from_29 k a b c =
       let f = from_28 k a b in
-      let w = behind t28 28 from29 keys_asked k c in (
+      let w = behind t28 refusal.SpanKeys from29 keys_asked k c in (
         λ e. let p = f.0 e in let q = w.0 p.2 in (p.0, p.1, q.0, q.1),
         λ q. f.1 (q.0, q.1, w.1 (q.2, q.3)),
       )
@@ -220,7 +223,7 @@ module _ (h : Holding) (first count limit places : ℕ) where
   result_29 : (number from24 ≡ 29) ↔ (GivesRecord h × NumbersScan h.numbers × KeysInside h first count × (PlacesEnough count places → ⊥))
   result_29 =
       let f = from_29 29 (λ e. omega arith) (λ e. omega arith) (λ e. omega arith) in
-      let w = own t29 29 read places_asked (not_read 29 (λ e. omega arith) (λ e. omega arith)) in
+      let w = own t29 refusal.SpanRoom read places_asked (not_read 29 (λ e. omega arith) (λ e. omega arith)) in
       (λ e. let q = f.0 e in (q.0, q.1, q.2, w.0 q.3), λ q. f.1 (q.0, q.1, q.2, w.1 q.3))
 
   -- 0 and 25 come from the reads
@@ -228,7 +231,7 @@ module _ (h : Holding) (first count limit places : ℕ) where
       → (number from24 ≡ k) ↔ (Passes h first count places × (number read ≡ k))
   from_reads k a b c d =
       let f = from_29 k a b c in
-      let w = behind t29 29 read places_asked k d in (
+      let w = behind t29 refusal.SpanRoom read places_asked k d in (
         λ e. let q = f.0 e in let r = w.0 q.3 in (record { gives = q.0; scans = q.1; keys = q.2; room = r.0 }, r.1),
         λ q. let p = q.0 in f.1 (p.gives, p.scans, p.keys, w.1 (p.room, q.1)),
       )
@@ -248,13 +251,13 @@ module _ (h : Holding) (first count limit places : ℕ) where
   -- where all is answered by yes the reads are the answer
   all_yes : Passes h first count places → from24 ≡ read
   all_yes p =
-      if_true t24 from27 (refused 24) (record_asked_lem.1 p.gives)
-      ∙ if_true (scannable o) from28 (refused 27) ((scan_asked h p.gives).1 p.scans)
-      ∙ if_true t28 from29 (refused 28) (keys_asked.1 p.keys)
-      ∙ if_true t29 read (refused 29) (places_asked.1 p.room)
+      if_true t24 from27 (Err refusal.RecordGiven) (record_asked_lem.1 p.gives)
+      ∙ if_true (scannable o) from28 (Err refusal.NoSpans) ((scan_asked h p.gives).1 p.scans)
+      ∙ if_true t28 from29 (Err refusal.SpanKeys) (keys_asked.1 p.keys)
+      ∙ if_true t29 read (Err refusal.SpanRoom) (places_asked.1 p.room)
 
   given_pairs : number from24 ≡ 0
-      → (ps : List Pair) × RecordsGive h.bytes o first limit 0 count ps × (span_of_numbers h.bytes h.numbers first count limit places ≡ given ps)
+      → (ps : List Pair) × RecordsGive h.bytes o first limit 0 count ps × (span_of_numbers h.bytes h.numbers first count limit places ≡ Ok ps)
   given_pairs z =
       let q = (from_reads 0 (λ e. omega arith) (λ e. omega arith) (λ e. omega arith) (λ e. omega arith)).0 z in
       let r = judged_pairs (span_judged h.bytes o first limit count) q.1 in
@@ -280,17 +283,17 @@ number_length (p ∷ ps) (suc i) h =
     ap (λ (n : ℕ). get_or (pair_numbers (p ∷ ps)) n 0) e ∙ number_length ps i (omega arith)
 
 module _ (h : Holding) (first count limit : ℕ) (c : SpanCall h first count limit) where
-  pub pairs_left : (ps : List Pair) → spanned h first count limit (length c.before) ≡ given ps → 2 * length ps ≤ length c.before
+  pub pairs_left : (ps : List Pair) → spanned h first count limit (length c.before) ≡ Ok ps → 2 * length ps ≤ length c.before
       → PairsLeft h first count limit c ps
   unfolding pairs_written found_written
   pairs_left ps e l =
       let n = numbers_length ps in
-      let after = c.leaves ∙ ap (λ (r : Answer (List Pair)). pairs_written r c.before) e in
+      let after = c.leaves ∙ ap (λ (r : Result (List Pair) Refusal). pairs_written r c.before) e in
       let at : (k : ℕ) → k < length (pair_numbers ps) → place c.after k ≡ get_or (pair_numbers ps) k 0 =
       λ k b. ap (λ (r : List ℕ). place r k) after ∙ ap (λ (j : ℕ). place (sets c.before 0 (pair_numbers ps)) j) (sym (zero-add k))
       ∙ get_d-sets_inside (pair_numbers ps) c.before 0 k 0 b (omega arith) in
       record {
-        found = c.leaves_found ∙ ap (λ (r : Answer (List Pair)). found_written r c.found) e;
+        found = c.leaves_found ∙ ap (λ (r : Result (List Pair) Refusal). found_written r c.found) e;
         places = ap length after ∙ length-sets c.before 0 (pair_numbers ps);
         offsets = λ i b. at (2 * i) (omega arith) ∙ number_offset ps i b;
         lengths = λ i b. at (2 * i + 1) (omega arith) ∙ number_length ps i b;

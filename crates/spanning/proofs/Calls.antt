@@ -6,9 +6,12 @@ use mathlib.Core.List.{List, Memᴰ}
 use Prim.Native.Nat.{ℕ, ◌+◌, ◌*◌, ◌≤◌}
 use native.Mathlib.Omega.{arith}
 use lib.ListN.{length, take, drop, length-append, length-take}
-use Rattle.num.specs.Answer.{Answer, given, refused}
+use Rattle.std.specs.Prelude.{Result, Ok, Err}
 use Rattle.num.specs.Number.{Bytes}
 use Rattle.num.proofs.Choice.{if_case}
+use Rattle.refusal.specs.Refusal.{refusal_number, answer_number}
+use Rattle.refusal.specs.declared.Refusal.{Refusal}
+use Rattle.refusal.specs.declared.Refusal.TheVariants as refusal
 use Rattle.header.specs.declared.Opened.{Opened}
 use Rattle.opened.specs.Opened.{is_record_of}
 use Rattle.locating.specs.Store.{LinkerStore, Version, Holds, store_versions}
@@ -16,7 +19,7 @@ use Rattle.locating.proofs.Accepted.{store_indexed}
 use Rattle.numbers.specs.Numbers.{record_numbers, opened_of, is_record_numbers}
 use Rattle.numbers.proofs.RecordNumbers.{record_read, record_is}
 use Rattle.numbered.specs.Numbers.{OwnNumber}
-use Rattle.spans.specs.Span.{Pair, scannable, scan_address, span_of, values_from, pairs_written, spanned_read, spanned_number}
+use Rattle.spans.specs.Span.{Pair, scannable, scan_address, span_of, values_from, pairs_written, spanned_read}
 use Rattle.scans.specs.Spans.{span_of_numbers, found_written}
 use Rattle.scans.proofs.Numbers.{spanned_over}
 use Rattle.calls.specs.Calls.{place, Holding, holding, blocks_held, GivesRecord}
@@ -32,12 +35,12 @@ use Rattle.spanning.proofs.Asked.{read_number, scan_asked, pairs_left, span_aske
 -- ---- every call
 
 -- 0, or one of the numbers
-Own : Answer (List Pair) → Type 0
-unfolding spanned_number spanned_read
-Own a = OwnNumber span_numbers (spanned_number (spanned_read a))
+Own : Result (List Pair) Refusal → Type 0
+unfolding answer_number spanned_read
+Own a = OwnNumber span_numbers (answer_number (spanned_read a))
 
-one_of_lem : (n : ℕ) → Memᴰ n span_numbers → Own (refused n)
-unfolding Own OwnNumber spanned_number spanned_read
+one_of_lem : (n : Refusal) → Memᴰ (refusal_number n) span_numbers → Own (Err n)
+unfolding Own OwnNumber answer_number spanned_read
 one_of_lem n m = inr m
 
 walk_own : (s : List ℕ) (o : Opened) (first count limit : ℕ) → Own (values_from count s o limit (scan_address s o first))
@@ -45,7 +48,7 @@ unfolding Own OwnNumber
 walk_own s o first count limit = go (read_number s o first count limit)
   where
     number : ℕ
-    number = spanned_number (spanned_read (values_from count s o limit (scan_address s o first)))
+    number = answer_number (spanned_read (values_from count s o limit (scan_address s o first)))
 
     go : (number ≡ 0) ⊎ (number ≡ 25) → OwnNumber span_numbers number
     go (inl e) = inl e
@@ -60,18 +63,18 @@ span_own s numbers first count limit places =
     (λ _. if_case Own _ _ _
     (λ _. if_case Own _ _ _
     (λ _. walk_own s _ first count limit)
-    (λ _. one_of_lem 29 (Memᴰ.tail (Memᴰ.tail (Memᴰ.tail (Memᴰ.tail (Memᴰ.head refl)))))))
-    (λ _. one_of_lem 28 (Memᴰ.tail (Memᴰ.tail (Memᴰ.tail (Memᴰ.head refl))))))
-    (λ _. one_of_lem 27 (Memᴰ.tail (Memᴰ.tail (Memᴰ.head refl)))))
-    (λ _. one_of_lem 24 (Memᴰ.head refl)))
-    (λ _. one_of_lem 24 (Memᴰ.head refl))
+    (λ _. one_of_lem refusal.SpanRoom (Memᴰ.tail (Memᴰ.tail (Memᴰ.tail (Memᴰ.tail (Memᴰ.head refl)))))))
+    (λ _. one_of_lem refusal.SpanKeys (Memᴰ.tail (Memᴰ.tail (Memᴰ.tail (Memᴰ.head refl))))))
+    (λ _. one_of_lem refusal.NoSpans (Memᴰ.tail (Memᴰ.tail (Memᴰ.head refl)))))
+    (λ _. one_of_lem refusal.RecordGiven (Memᴰ.head refl)))
+    (λ _. one_of_lem refusal.RecordGiven (Memᴰ.head refl))
 
 -- where the number is not 0 nothing is written
-refused_kept : (a : Answer (List Pair)) (before : List ℕ) (found : ℕ) → (spanned_number (spanned_read a) ≡ 0 → ⊥)
+refused_kept : (a : Result (List Pair) Refusal) (before : List ℕ) (found : ℕ) → (answer_number (spanned_read a) ≡ 0 → ⊥)
     → (pairs_written a before ≡ before) × (found_written a found ≡ found)
-unfolding spanned_number spanned_read pairs_written found_written
-refused_kept (given ps) before found n = absurd (n refl)
-refused_kept (refused k) before found n = (refl, refl)
+unfolding answer_number spanned_read pairs_written found_written
+refused_kept (Ok ps) before found n = absurd (n refl)
+refused_kept (Err k) before found n = (refl, refl)
 
 pub spans_numbered : SpansNumbered
 unfolding SpansNumbered Own
@@ -173,13 +176,13 @@ module _ (h : Holding) (o : Opened) (x : HoldsStore h o) where
     gives : NumbersScan h.numbers → first + count ≤ length (store_keys (blocks_held h)) → 2 * count ≤ length c.before
         → (c.result ≡ 0)
         × ((ps : List Pair) × SpanGives (blocks_held h) limit (keys_spanned (blocks_held h) first count) ps × PairsLeft h first count limit c ps)
-    unfolding spanned_number spanned_read keys_spanned
+    unfolding answer_number spanned_read keys_spanned
     gives n k l =
         let g = spans.gives (numbers_scans n) (omega (arith, ap length (held_keys h o limit))) l in
         let f = held_span h o limit _ g.0 g.2 in
         let m = span_few (blocks_held h) limit _ g.0 f in
         let t = length-take count (drop first (store_keys (store_held h o))) in (
-          c.returns ∙ ap (λ (r : Answer (List Pair)). spanned_number (spanned_read r)) (call-spans ∙ g.1),
+          c.returns ∙ ap (λ (r : Result (List Pair) Refusal). answer_number (spanned_read r)) (call-spans ∙ g.1),
           (
             g.0,
             subst (λ (keys : List (List ℕ)). SpanGives (blocks_held h) limit (take count (drop first keys)) g.0) (held_keys h o limit) f,
@@ -204,7 +207,7 @@ module _ (h : Holding) (o : Opened) (x : HoldsStore h o) where
         (omega (arith, ap length (held_keys h o limit))) l in
         let m = answers_few calls in
         let t = length-take count (drop first (store_keys (blocks_held h))) in
-        pairs_left h first count limit c (answers_pairs calls) (call-spans ∙ g ∙ ap given (f ∙ sym e)) (omega arith)
+        pairs_left h first count limit c (answers_pairs calls) (call-spans ∙ g ∙ ap Ok (f ∙ sym e)) (omega arith)
 
     call-spanned : SpanGiven h first count limit c
     call-spanned =

@@ -5,7 +5,7 @@ use mathlib.Core.List.{List}
 use Prim.Native.Nat.{ℕ, zero, suc, ◌+◌, ◌*◌, ◌%◌, ◌^◌, ◌<◌, ◌≤◌}
 use native.Mathlib.Nat.{mod-eq_of_lt}
 use native.Mathlib.Omega.{arith}
-use Rattle.num.specs.Answer.{given}
+use Rattle.std.specs.Prelude.{Ok}
 use Rattle.num.specs.Number.{Bytes, le_at}
 use Rattle.num.proofs.Number.{le_at-lt}
 use Rattle.block.specs.Walk.{Entry}
@@ -56,7 +56,7 @@ module _ (t : LinkerStore) {scratch : ℕ} {es : List Entry} (bytes : Bytes t.by
   keys_behind_lem (suc count) k limit h = ap (values_from (suc count) s o limit) (address_behind k (omega arith))
 
   -- the values of some keys
-  keys_found : (count k limit : ℕ) → k + count ≤ o.count → values_from count s o limit (address_of s o k) ≡ given (lookup_pairs t limit (arena_keys s o count k))
+  keys_found : (count k limit : ℕ) → k + count ≤ o.count → values_from count s o limit (address_of s o k) ≡ Ok (lookup_pairs t limit (arena_keys s o count k))
   unfolding values_from arena_keys lookup_pairs lookup pairs_joined
   keys_found zero k limit h = refl
   keys_found (suc count) k limit h =
@@ -65,7 +65,7 @@ module _ (t : LinkerStore) {scratch : ℕ} {es : List Entry} (bytes : Bytes t.by
 
   -- from the scan address of the first
   pub scanned_found : (first count limit : ℕ) → first + count ≤ o.count
-      → values_from count s o limit (scan_address s o first) ≡ given (lookup_pairs t limit (arena_keys s o count first))
+      → values_from count s o limit (scan_address s o first) ≡ Ok (lookup_pairs t limit (arena_keys s o count first))
   unfolding values_from arena_keys lookup_pairs
   scanned_found first zero limit h = refl
   scanned_found first (suc count) limit h =

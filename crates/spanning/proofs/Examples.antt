@@ -4,10 +4,11 @@ use mathlib.Core.Path.{◌≡◌, refl}
 use mathlib.Core.List.{List, [], ◌∷◌}
 use Prim.Native.Nat.{ℕ}
 use lib.Seq.{sets}
-use Rattle.num.specs.Answer.{given, refused}
+use Rattle.std.specs.Prelude.{Ok, Err}
 use Rattle.num.specs.Choice.{choice_defs}
 use Rattle.num.specs.Number.{le_at}
 use Rattle.num.specs.Order.{equal_bytes}
+use Rattle.refusal.specs.declared.Refusal.TheVariants as refusal
 use Rattle.encoding.specs.Encoding.{encoding_defs}
 use Rattle.header.specs.Header.{header_defs, packed_record}
 use Rattle.opened.specs.Opened.{opened_defs}
@@ -27,23 +28,23 @@ empty = record { offset = 69; len = 0 }
 
 -- both keys without a limit; under 7, which `ab` has; under 6, where `ab` is a tombstone; under 4, where `ac` is not within; the second key
 -- alone; no key
-spans : (span_of worked_scan_section worked_scan_opened 0 2 no_limit 4 ≡ given (xyz ∷ empty ∷ []))
-    × (span_of worked_scan_section worked_scan_opened 0 2 7 4 ≡ given (xyz ∷ empty ∷ []))
-    × (span_of worked_scan_section worked_scan_opened 0 2 6 4 ≡ given (empty ∷ []))
-    × (span_of worked_scan_section worked_scan_opened 0 2 4 4 ≡ given [])
-    × (span_of worked_scan_section worked_scan_opened 1 1 no_limit 2 ≡ given (empty ∷ []))
-    × (span_of worked_scan_section worked_scan_opened 2 0 no_limit 0 ≡ given [])
+spans : (span_of worked_scan_section worked_scan_opened 0 2 no_limit 4 ≡ Ok (xyz ∷ empty ∷ []))
+    × (span_of worked_scan_section worked_scan_opened 0 2 7 4 ≡ Ok (xyz ∷ empty ∷ []))
+    × (span_of worked_scan_section worked_scan_opened 0 2 6 4 ≡ Ok (empty ∷ []))
+    × (span_of worked_scan_section worked_scan_opened 0 2 4 4 ≡ Ok [])
+    × (span_of worked_scan_section worked_scan_opened 1 1 no_limit 2 ≡ Ok (empty ∷ []))
+    × (span_of worked_scan_section worked_scan_opened 2 0 no_limit 0 ≡ Ok [])
 unfolding worked_defs header_defs opened_defs encoding_defs choice_defs key_defs version_defs locator_defs span_defs le_at equal_bytes xyz empty
 spans = (refl, refl, refl, refl, refl, refl)
 
 -- 24, another least sequence, asked before 27; 27, no scan part, or packed; 28, a key too many, or a sum beyond 64 bits; 29, a place too few
-refusals : (span_of worked_scan_section (opened_with 2 130) 0 2 no_limit 4 ≡ refused 24)
-    × (span_of worked_section (opened_with 2 0) 0 2 no_limit 4 ≡ refused 24)
-    × (span_of worked_section worked_opened 0 2 no_limit 4 ≡ refused 27)
-    × (span_of worked_packed (packed_record worked_opened) 0 2 no_limit 4 ≡ refused 27)
-    × (span_of worked_scan_section worked_scan_opened 1 2 no_limit 4 ≡ refused 28)
-    × (span_of worked_scan_section worked_scan_opened 1 no_limit no_limit 4 ≡ refused 28)
-    × (span_of worked_scan_section worked_scan_opened 0 2 no_limit 3 ≡ refused 29)
+refusals : (span_of worked_scan_section (opened_with 2 130) 0 2 no_limit 4 ≡ Err refusal.RecordGiven)
+    × (span_of worked_section (opened_with 2 0) 0 2 no_limit 4 ≡ Err refusal.RecordGiven)
+    × (span_of worked_section worked_opened 0 2 no_limit 4 ≡ Err refusal.NoSpans)
+    × (span_of worked_packed (packed_record worked_opened) 0 2 no_limit 4 ≡ Err refusal.NoSpans)
+    × (span_of worked_scan_section worked_scan_opened 1 2 no_limit 4 ≡ Err refusal.SpanKeys)
+    × (span_of worked_scan_section worked_scan_opened 1 no_limit no_limit 4 ≡ Err refusal.SpanKeys)
+    × (span_of worked_scan_section worked_scan_opened 0 2 no_limit 3 ≡ Err refusal.SpanRoom)
 unfolding worked_defs header_defs opened_defs encoding_defs choice_defs key_defs version_defs locator_defs span_defs le_at equal_bytes
 refusals = (refl, refl, refl, refl, refl, refl, refl)
 
@@ -57,10 +58,10 @@ greatest = sets worked_scan_section 56 (255 ∷ 255 ∷ 255 ∷ 255 ∷ 255 ∷ 
 
 -- 25 of the first key's scan address; without a key nothing is read, and no other key's scan address is: the second stands behind the
 -- first; 25 of a sum beyond 64 bits
-forgeries : (span_of (forged 154) worked_scan_opened 0 2 no_limit 4 ≡ refused 25)
-    × (span_of (forged 154) worked_scan_opened 0 0 no_limit 0 ≡ given [])
-    × (span_of (forged 158) worked_scan_opened 0 2 no_limit 4 ≡ given (xyz ∷ empty ∷ []))
-    × (span_of (forged 158) worked_scan_opened 1 1 no_limit 2 ≡ refused 25)
-    × (span_of greatest (opened_with no_limit 130) 0 1 no_limit 2 ≡ refused 25)
+forgeries : (span_of (forged 154) worked_scan_opened 0 2 no_limit 4 ≡ Err refusal.Read)
+    × (span_of (forged 154) worked_scan_opened 0 0 no_limit 0 ≡ Ok [])
+    × (span_of (forged 158) worked_scan_opened 0 2 no_limit 4 ≡ Ok (xyz ∷ empty ∷ []))
+    × (span_of (forged 158) worked_scan_opened 1 1 no_limit 2 ≡ Err refusal.Read)
+    × (span_of greatest (opened_with no_limit 130) 0 1 no_limit 2 ≡ Err refusal.Read)
 unfolding worked_defs header_defs opened_defs encoding_defs choice_defs key_defs version_defs locator_defs span_defs le_at equal_bytes xyz empty forged greatest
 forgeries = (refl, refl, refl, refl, refl)

@@ -9,9 +9,11 @@ use native.Mathlib.Omega.{arith}
 use lib.Dec.{leb, ltb}
 use lib.ListN.{length, length-append}
 use borrow.Author.Tests.{leb-true, leb-false, ltb-true, ltb-false}
-use Rattle.num.specs.Answer.{Answer, given, refused}
+use Rattle.std.specs.Prelude.{Result, Ok, Err}
 use Rattle.num.specs.Choice.{when◌then◌else◌, both}
 use Rattle.num.proofs.Steps.{first_or_later}
+use Rattle.refusal.specs.declared.Refusal.{Refusal}
+use Rattle.refusal.specs.declared.Refusal.TheVariants as refusal
 use Rattle.sstable.specs.declared.Kind.TheVariants.{Put, Tombstone}
 use Rattle.encoding.specs.Encoding.{key_header_len_of, version_len_of, tombstone_of}
 use Rattle.header.specs.declared.Opened.{Opened}
@@ -24,9 +26,9 @@ use Rattle.spans.specs.Span.{Pair, scan_address, value_end, unless_tombstone, va
 use Rattle.spanning.specs.Reads.{header_at, place_at, seq_at, marked_at, value_offset_at, read_end, Reached, Unread, header, sequence, sum, value_fields, RecordGives, put_read, tombstone_read, none_read, address_read, SomeUnread, RecordsGive, no_record, next_record, RecordsGiveOne}
 
 -- an answer is 25 and a read fails, or none does and the pairs are given
-pub data Judged (ReadFails : Type 0) (Gives : List Pair → Type 0) (r : Answer (List Pair)) : Type 0 where
-  bad : ReadFails → r ≡ refused 25 → Judged ReadFails Gives r
-  good : (ps : List Pair) → (ReadFails → ⊥) → Gives ps → r ≡ given ps → Judged ReadFails Gives r
+pub data Judged (ReadFails : Type 0) (Gives : List Pair → Type 0) (r : Result (List Pair) Refusal) : Type 0 where
+  bad : ReadFails → r ≡ Err refusal.Read → Judged ReadFails Gives r
+  good : (ps : List Pair) → (ReadFails → ⊥) → Gives ps → r ≡ Ok ps → Judged ReadFails Gives r
 
 -- ---- one key record
 
@@ -117,7 +119,7 @@ module _ (s : List ℕ) (o : Opened) (limit address : ℕ) where
           let l = leb-false (tombstone_of o.encoding) (stored_value s o (at j)) e in
           subst (λ (p : Pair). RecordGives s o limit address (p ∷ [])) (sym (short l)) (put_read j r w l)
 
-  abbrev KeyJudged : Answer (List Pair) → Type 0
+  abbrev KeyJudged : Result (List Pair) Refusal → Type 0
   KeyJudged = Judged (Unread s o limit address) (RecordGives s o limit address)
 
   module _ (inside : o.arena + address + key_header_size o.encoding ≤ length s) where
@@ -138,9 +140,9 @@ module _ (s : List ℕ) (o : Opened) (limit address : ℕ) where
             → (low : Bool) → leb (seq j) limit ≡ low → (whole : Bool) → leb (at j + value_end o.encoding) (length s) ≡ whole
             → (Passed (suc j) → KeyJudged (first_within n s o (at j + version_len_of o.encoding) limit))
             → KeyJudged (elim (both read sums) [
-              | false ↦ refused 25
+              | false ↦ Err refusal.Read
               | true ↦ elim low [
-                | true ↦ when whole then given (value_at s o (at j)) else refused 25
+                | true ↦ when whole then Ok (value_at s o (at j)) else Err refusal.Read
                 | false ↦ first_within n s o (at j + version_len_of o.encoding) limit
               ]
             ])
@@ -165,7 +167,7 @@ module _ (s : List ℕ) (o : Opened) (limit address : ℕ) where
       first = omega arith
 
       go : (b : Bool) → leb (o.arena + address + key_header_len_of o.encoding) (length s) ≡ b
-          → KeyJudged (when b then first_within (header_at s o address).versions s o from limit else refused 25)
+          → KeyJudged (when b then first_within (header_at s o address).versions s o from limit else Err refusal.Read)
       go true e =
           subst (λ (a : ℕ). KeyJudged (first_within (header_at s o address).versions s o a limit)) (sym first)
           (versions_judged (leb-true _ _ e) (header_at s o address).versions 0 (omega arith) none_passed)
@@ -188,11 +190,11 @@ module _ (s : List ℕ) (o : Opened) (first limit : ℕ) where
       ap (λ (m : ℕ). m % 2 ^ 32) e
 
   -- a key record before the others
-  joined : (i count : ℕ) (a b : Answer (List Pair)) → KeyJudged s o limit (address_read s o first i) a
+  joined : (i count : ℕ) (a b : Result (List Pair) Refusal) → KeyJudged s o limit (address_read s o first i) a
       → Judged (SomeFrom (suc i) count) (RecordsGive s o first limit (suc i) count) b
       → Judged (SomeFrom i (suc count)) (RecordsGive s o first limit i (suc count)) (pairs_joined a b)
   unfolding pairs_joined SomeFrom
-  joined i count a b (bad u e) q = bad (i, omega arith, omega arith, u) (ap (λ (x : Answer (List Pair)). pairs_joined x b) e)
+  joined i count a b (bad u e) q = bad (i, omega arith, omega arith, u) (ap (λ (x : Result (List Pair) Refusal). pairs_joined x b) e)
   joined i count a b (good ps n g e) (bad (k, l, m, u) f) = bad (k, omega arith, omega arith, u) (ap₂ pairs_joined e f)
   joined i count a b (good ps n g e) (good qs m h f) = good (ps ++ qs) none_fails (next_record g h) (ap₂ pairs_joined e f)
     where

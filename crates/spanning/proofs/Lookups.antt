@@ -7,6 +7,7 @@ use native.Mathlib.Omega.{arith}
 use lib.Dec.{eqb}
 use lib.ListN.{length, length-append}
 use lib.Seq.{sets}
+use Rattle.std.specs.Prelude.{Some, None, Ok, Err}
 use Rattle.num.specs.Choice.{when◌then◌else◌}
 use Rattle.num.proofs.Choice.{if_case}
 use Rattle.num.proofs.Lists.{get_d-sets_inside}
@@ -14,8 +15,8 @@ use Rattle.sstable.specs.declared.Kind.{Kind}
 use Rattle.sstable.specs.declared.Kind.TheVariants.{Put, Tombstone}
 use Rattle.sstable.specs.Kind.{kind_number}
 use Rattle.header.specs.declared.Opened.{Opened}
-use Rattle.locator.specs.declared.Located.{Located}
-use Rattle.locator.specs.declared.Located.TheVariants.{Found, Missing, Refused}
+use Rattle.refusal.specs.declared.Refusal.{Refusal}
+use Rattle.locator.specs.Locator.{Located}
 use Rattle.lookup.specs.Lookup.{locate_of}
 use Rattle.locating.specs.Looks.{lookup, LooksExactly}
 use Rattle.locating.proofs.Accepted.{lookup_exactly}
@@ -38,9 +39,9 @@ answer_places answer kind offset len a b c =
     ∙ ap₂ (λ (i j : ℕ). when eqb kind 1 then record { offset = i; len = j } ∷ [] else []) b c
 
 -- the answer behind a lookup has the pairs of what is found
-written_pairs : (r : Located) (before : List ℕ) → length before ≡ 6 → ((n : ℕ) → r ≡ Refused n → ⊥) → answer_pairs (answer_written r before) ≡ located_pairs r
-unfolding answer_written located_pairs answer_numbers when◌then◌else◌ unless_tombstone kind_number
-written_pairs (Found l) before six n =
+written_pairs : (r : Located) (before : List ℕ) → length before ≡ 6 → ((n : Refusal) → r ≡ Err n → ⊥) → answer_pairs (answer_written r before) ≡ located_pairs r
+unfolding answer_written located_pairs answer_numbers when◌then◌else◌ unless_tombstone
+written_pairs (Ok (Some l)) before six n =
     answer_places (sets before 0 (answer_numbers l)) (kind_number l.kind) l.offset l.len
     (get_d-sets_inside (answer_numbers l) before 0 1 0 (omega arith) (omega arith))
     (get_d-sets_inside (answer_numbers l) before 0 3 0 (omega arith) (omega arith))
@@ -51,10 +52,10 @@ written_pairs (Found l) before six n =
         ≡ unless_tombstone k (record { offset = l.offset; len = l.len })
     kinds Put = refl
     kinds Tombstone = refl
-written_pairs Missing before six n =
+written_pairs (Ok None) before six n =
     answer_places (sets before 0 none_numbers) 0 0 0 (get_d-sets_inside none_numbers before 0 1 0 (omega arith) (omega arith))
     (get_d-sets_inside none_numbers before 0 3 0 (omega arith) (omega arith)) (get_d-sets_inside none_numbers before 0 4 0 (omega arith) (omega arith))
-written_pairs (Refused k) before six n = absurd (n k refl)
+written_pairs (Err k) before six n = absurd (n k refl)
 
 answer_few : (answer : List ℕ) → length (answer_pairs answer) ≤ 1
 unfolding answer_pairs

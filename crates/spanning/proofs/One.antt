@@ -54,7 +54,7 @@ module _ (t : LinkerStore) (k : KeysInOrder t) (limit : ℕ) (key : List ℕ) wh
   kinds_apart v w g h a b = let e = ap (λ (x : Version). kind_number x.kind) (version_one v w g h) in omega arith
 
   key_one : (ps qs : List Pair) → KeyGives t limit key ps → KeyGives t limit key qs → ps ≡ qs
-  unfolding NoneWithin kind_number
+  unfolding NoneWithin
   key_one ps qs (value v p g e l) (value w q h f m) = ap (λ (x : Pair). x ∷ []) (pair_one v w p q g h l m)
   key_one ps qs (value v p g e l) (tombstone w h f) = absurd (kinds_apart v w g h (ap kind_number e) (ap kind_number f))
   key_one ps qs (value v p g e l) (none n) = absurd (n v g.within)

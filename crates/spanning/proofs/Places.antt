@@ -5,6 +5,7 @@ use mathlib.Core.List.{List, Memᴰ}
 use Prim.Native.Nat.{ℕ, ◌+◌, ◌<◌}
 use native.Mathlib.Nat.{zero-add}
 use native.Mathlib.Omega.{arith}
+use Rattle.std.specs.Prelude.{Some, Ok}
 use Rattle.block.specs.Walk.{Entry}
 use Rattle.agreement.specs.Keys.{version_count, key_at, first_version, version_place, version_seq}
 use Rattle.agreement.specs.Agrees.{entry_at}
@@ -12,7 +13,6 @@ use Rattle.agreement.proofs.Same.{seq_is, length_is, offset_is}
 use Rattle.agreement.proofs.Laws.{member_index, index_member}
 use Rattle.admission.specs.Blocks.{store_entries}
 use Rattle.locator.specs.declared.ValueLocator.{ValueLocator}
-use Rattle.locator.specs.declared.Located.TheVariants.{Found}
 use Rattle.locator.specs.Locator.{locator_at, versions_from}
 use Rattle.locating.specs.Store.{LinkerStore, Version}
 use Rattle.locating.specs.Looks.{lookup, Greatest, Answers}
@@ -25,7 +25,7 @@ module _ (t : LinkerStore) (x : Indexed t.bytes t.opened t.backing (store_entrie
   open t use {bytes as s, backing as «data», blocks, opened as o}
 
   module _ (limit : ℕ) (v : Version) (l : ValueLocator) (k : ℕ) (h : k < o.count) (key : List ℕ) (ek : v.key ≡ key_at s o k)
-      (e : lookup t (key_at s o k) limit ≡ Found l) (g : Greatest t key limit v) (a : Answers t v l) where
+      (e : lookup t (key_at s o k) limit ≡ Ok (Some l)) (g : Greatest t key limit v) (a : Answers t v l) where
     -- the version of key k that is answered is this one
     own-lies : Answered s o k limit 0 (versions_from (version_count s o k) s o (version_place s o k 0) limit)
         → ValueLies t v (record { offset = l.offset; len = l.len })
@@ -53,7 +53,7 @@ module _ (t : LinkerStore) (x : Indexed t.bytes t.opened t.backing (store_entrie
         }
 
   -- the version that a lookup finds lies where the lookup says
-  pub found_lies : (key : List ℕ) (limit : ℕ) (v : Version) (l : ValueLocator) → lookup t key limit ≡ Found l → Greatest t key limit v → Answers t v l
+  pub found_lies : (key : List ℕ) (limit : ℕ) (v : Version) (l : ValueLocator) → lookup t key limit ≡ Ok (Some l) → Greatest t key limit v → Answers t v l
       → ValueLies t v (record { offset = l.offset; len = l.len })
   found_lies key limit v l e g a =
       let y = listed t x v g.within.held in

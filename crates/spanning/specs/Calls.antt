@@ -1,19 +1,20 @@
 -- What spans promise, said of the entry that is called, `kiban_span` (include/kiban.h): of its result, of the places that it is lent and of
 -- the number behind them. A call is what its entry was lent, its result and what it left, in the words of its contract (crates/kiban/src/lib.rt).
-use Rattle.std.specs.Prelude.{◌≡◌, ◌↔◌, List, [], ◌∷◌, ◌++◌, ℕ, ◌+◌, ◌*◌, ◌<◌, ◌≤◌, eqb, length, get_or, drop}
-use Rattle.num.specs.Answer.{Answer}
+use Rattle.std.specs.Prelude.{◌≡◌, ◌↔◌, List, [], ◌∷◌, ◌++◌, ℕ, ◌+◌, ◌*◌, ◌<◌, ◌≤◌, eqb, length, get_or, drop, Result}
 use Rattle.num.specs.Choice.{when◌then◌else◌}
 use Rattle.num.specs.Number.{Bytes}
+use Rattle.refusal.specs.Refusal.{answer_number}
+use Rattle.refusal.specs.declared.Refusal.{Refusal}
 use Rattle.numbers.specs.Numbers.{opened_of}
 use Rattle.numbered.specs.Numbers.{OwnNumber}
-use Rattle.spans.specs.Span.{Pair, pairs_written, spanned_read, spanned_number}
+use Rattle.spans.specs.Span.{Pair, pairs_written, spanned_read}
 use Rattle.scans.specs.Spans.{span_of_numbers, found_written}
 use Rattle.calls.specs.Calls.{place, Holding, Linker, holding, blocks_held, LookupCall, GivesRecord}
 use Rattle.spanning.specs.Spans.{store_keys, KeysInOrder, keys_spanned, SpanGives}
 use Rattle.spanning.specs.Reads.{SomeUnread, RecordsGive}
 
 -- what a span over the bytes and numbers held answers, for so many places
-abbrev pub spanned : Holding → ℕ → ℕ → ℕ → ℕ → Answer (List Pair)
+abbrev pub spanned : Holding → ℕ → ℕ → ℕ → ℕ → Result (List Pair) Refusal
 spanned h first count limit places = span_of_numbers h.bytes h.numbers first count limit places
 
 -- a call of `kiban_span` on the bytes and numbers held, with any numbers in its places and behind `found` before
@@ -23,7 +24,7 @@ pub record SpanCall (h : Holding) (first count limit : ℕ) : Type 0 where
   pub result : ℕ
   pub after : List ℕ
   pub found_after : ℕ
-  pub returns : result ≡ spanned_number (spanned_read (spanned h first count limit (length before)))
+  pub returns : result ≡ answer_number (spanned_read (spanned h first count limit (length before)))
   pub leaves : after ≡ pairs_written (spanned h first count limit (length before)) before
   pub leaves_found : found_after ≡ found_written (spanned h first count limit (length before)) found
 

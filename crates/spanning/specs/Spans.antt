@@ -1,14 +1,14 @@
 -- What a span gives of an accepted store, in plain terms (document 01, "Spans").
-use Rattle.std.specs.Prelude.{◌≡◌, ◌⊎◌, true, false, ℕ, suc, ◌+◌, ◌*◌, ◌<◌, ◌≤◌, length, get_or, take, drop}
+use Rattle.std.specs.Prelude.{◌≡◌, ◌⊎◌, true, false, ℕ, suc, ◌+◌, ◌*◌, ◌<◌, ◌≤◌, length, get_or, take, drop, Some, None, Result, Ok, Err}
 use mathlib.Core.List.{List, [], ◌∷◌, ◌++◌, Memᴰ}
-use Rattle.num.specs.Answer.{Answer, given, refused}
 use Rattle.num.specs.Number.{Bytes}
 use Rattle.num.specs.Order.{equal_bytes, less_than}
+use Rattle.refusal.specs.declared.Refusal.{Refusal}
+use Rattle.refusal.specs.declared.Refusal.TheVariants as refusal
 use Rattle.sstable.specs.declared.Kind.TheVariants.{Put, Tombstone}
 use Rattle.block.specs.Walk.{Entry}
 use Rattle.admission.specs.Blocks.{store_entries}
-use Rattle.locator.specs.declared.Located.{Located}
-use Rattle.locator.specs.declared.Located.TheVariants.{Found, Missing, Refused}
+use Rattle.locator.specs.Locator.{Located}
 use Rattle.lookup.specs.Value.{value_number, value_part}
 use Rattle.locating.specs.Store.{LinkerStore, Store, Version, version_in, Holds}
 use Rattle.locating.specs.Looks.{lookup, NoneWithin, Greatest}
@@ -52,7 +52,7 @@ keys_spanned t first count = take count (drop first (store_keys t))
 -- ---- what a span gives
 
 -- the span of a store, for an output of so many places
-unfoldable pub span : LinkerStore → ℕ → ℕ → ℕ → ℕ → Answer (List Pair)
+unfoldable pub span : LinkerStore → ℕ → ℕ → ℕ → ℕ → Result (List Pair) Refusal
 span t first count limit places = span_of t.bytes t.opened first count limit places
 
 -- a pair is where a version's value lies in the data: the place and length that the blocks' record of this version has; 26 does not occur
@@ -95,13 +95,13 @@ pub record Scans (t : LinkerStore) : Type 0 where
 pub record Spans (t : LinkerStore) (first count limit places : ℕ) : Type 0 where
   -- where 27 to 29 are answered by yes it gives the pairs of these keys, in their order
   pub gives : Scans t → first + count ≤ length (store_keys t) → 2 * count ≤ places
-      → (ps : List Pair) × (span t first count limit places ≡ given ps) × SpanGives t limit (keys_spanned t first count) ps
+      → (ps : List Pair) × (span t first count limit places ≡ Ok ps) × SpanGives t limit (keys_spanned t first count) ps
   -- otherwise the first no is the answer
-  pub no_scan : (Scans t → ⊥) → span t first count limit places ≡ refused 27
-  pub no_keys : Scans t → length (store_keys t) < first + count → span t first count limit places ≡ refused 28
-  pub no_places : Scans t → first + count ≤ length (store_keys t) → places < 2 * count → span t first count limit places ≡ refused 29
+  pub no_scan : (Scans t → ⊥) → span t first count limit places ≡ Err refusal.NoSpans
+  pub no_keys : Scans t → length (store_keys t) < first + count → span t first count limit places ≡ Err refusal.SpanKeys
+  pub no_places : Scans t → first + count ≤ length (store_keys t) → places < 2 * count → span t first count limit places ≡ Err refusal.SpanRoom
   -- 24 and 25 do not occur
-  pub never : (n : ℕ) → span t first count limit places ≡ refused n → (n ≡ 27) ⊎ (n ≡ 28) ⊎ (n ≡ 29)
+  pub never : (e : Refusal) → span t first count limit places ≡ Err e → (e ≡ refusal.NoSpans) ⊎ (e ≡ refusal.SpanKeys) ⊎ (e ≡ refusal.SpanRoom)
 
 -- every span of an accepted store, whose section is a list of bytes, promises this
 unfoldable pub SpansExactly : Type 0
@@ -111,9 +111,9 @@ SpansExactly = (t : LinkerStore) → Store t → Bytes t.bytes → (first count 
 
 -- the pairs of what a lookup answers
 unfoldable pub located_pairs : Located → List Pair
-located_pairs (Found l) = unless_tombstone l.kind (record { offset = l.offset; len = l.len })
-located_pairs Missing = []
-located_pairs (Refused n) = []
+located_pairs (Ok (Some l)) = unless_tombstone l.kind (record { offset = l.offset; len = l.len })
+located_pairs (Ok None) = []
+located_pairs (Err n) = []
 
 -- what the lookups of some keys find, one behind the other
 unfoldable pub lookup_pairs : LinkerStore → ℕ → List (List ℕ) → List Pair
@@ -124,10 +124,10 @@ lookup_pairs t limit (key ∷ keys) = located_pairs (lookup t key limit) ++ look
 unfoldable pub SpanIsLookups : Type 0
 SpanIsLookups =
     (t : LinkerStore) → Store t → Bytes t.bytes → Scans t → (first count limit places : ℕ) → first + count ≤ length (store_keys t)
-    → 2 * count ≤ places → span t first count limit places ≡ given (lookup_pairs t limit (keys_spanned t first count))
+    → 2 * count ≤ places → span t first count limit places ≡ Ok (lookup_pairs t limit (keys_spanned t first count))
 
 -- so the span of all keys lists what n lookups find
 unfoldable pub SpanOfAll : Type 0
 SpanOfAll =
     (t : LinkerStore) → Store t → Bytes t.bytes → Scans t → (limit places : ℕ) → 2 * t.opened.count ≤ places
-    → span t 0 t.opened.count limit places ≡ given (lookup_pairs t limit (store_keys t))
+    → span t 0 t.opened.count limit places ≡ Ok (lookup_pairs t limit (store_keys t))

@@ -1,16 +1,18 @@
 -- The walk over key records, one key at a time.
 -- Assumes nothing.
 use mathlib.Core.Path.{◌≡◌, refl, sym, ap, ap₂, ◌∙◌, subst⁻¹}
-use mathlib.Core.Bool.{Bool, true, false, not}
+use mathlib.Core.Bool.{Bool, true, false}
 use mathlib.Core.List.{List, [], ◌∷◌, ◌++◌, append-nil}
-use Prim.Native.Nat.{ℕ, zero, suc, ◌+◌, ◌*◌, ◌-◌, ◌%◌, ◌^◌, ◌<◌, ◌≤◌}
+use Prim.Native.Nat.{ℕ, zero, suc, ◌+◌, ◌*◌, ◌%◌, ◌^◌, ◌<◌, ◌≤◌}
 use native.Mathlib.Nat.{mul-le-mul, le_of_lt}
 use native.Mathlib.Omega.{arith}
 use lib.Dec.{leb, ltb}
 use lib.ListN.{length, length-append}
 use lib.Seq.{sets, length-sets}
 use borrow.Author.Tests.{le-leb, lt-leb, leb-true, leb-false}
-use Rattle.num.specs.Answer.{Answer, given, refused}
+use Rattle.std.specs.Prelude.{Option, Some, None, Result, Ok, Err}
+use Rattle.refusal.specs.declared.Refusal.{Refusal}
+use Rattle.refusal.specs.declared.Refusal.TheVariants as refusal
 use Rattle.num.specs.Choice.{when◌then◌else◌, both}
 use Rattle.num.specs.Number.{Bytes}
 use Rattle.num.proofs.Choice.{false_true, both_true, if_case, if_true, if_false}
@@ -27,35 +29,56 @@ use Rattle.arena.proofs.Reading.{version_le, key_header_narrow}
 use Rattle.versions.specs.Version.{stored_seq}
 use Rattle.locator.specs.Locator.{readable}
 use Rattle.spans.specs.Span.{Pair, value_end, unless_tombstone, value_at, first_within, versions_start, key_value, next_address_of, pairs_joined, values_from, pair_numbers, pairs_written, spanned_read}
-use Rattle.spans.specs.declared.Spanned.TheVariants.{Pairs, Refused}
-use Rattle.spans.specs.declared.VersionRead.{VersionRead}
-use Rattle.spans.specs.Internal.{value_read, is_failed, is_given, pairs_of}
-use Rattle.spans.proofs.Values.{read_given}
+use Rattle.spans.specs.Internal.{value_read, asked_of, is_given, pairs_of}
 
 -- ---- answers one behind the other
 
-pub given_joined : (a b : Answer (List Pair)) → is_given (pairs_joined a b) ≡ both (is_given a) (is_given b)
+pub given_joined : (a b : Result (List Pair) Refusal) → is_given (pairs_joined a b) ≡ both (is_given a) (is_given b)
 unfolding pairs_joined is_given both
-given_joined (given ps) (given qs) = refl
-given_joined (given ps) (refused n) = refl
-given_joined (refused n) b = refl
+given_joined (Ok ps) (Ok qs) = refl
+given_joined (Ok ps) (Err e) = refl
+given_joined (Err e) b = refl
 
-pairs_joined_lem : (a b : Answer (List Pair)) → is_given (pairs_joined a b) ≡ true → pairs_of (pairs_joined a b) ≡ pairs_of a ++ pairs_of b
+pairs_joined_lem : (a b : Result (List Pair) Refusal) → is_given (pairs_joined a b) ≡ true → pairs_of (pairs_joined a b) ≡ pairs_of a ++ pairs_of b
 unfolding pairs_joined is_given pairs_of
-pairs_joined_lem (given ps) (given qs) e = refl
-pairs_joined_lem (given ps) (refused n) e = false_true e
-pairs_joined_lem (refused n) b e = false_true e
+pairs_joined_lem (Ok ps) (Ok qs) e = refl
+pairs_joined_lem (Ok ps) (Err r) e = false_true e
+pairs_joined_lem (Err r) b e = false_true e
 
-joined_none : (a : Answer (List Pair)) → pairs_joined a (given []) ≡ a
+joined_none : (a : Result (List Pair) Refusal) → pairs_joined a (Ok []) ≡ a
 unfolding pairs_joined
-joined_none (given ps) = ap given (append-nil ps)
-joined_none (refused n) = refl
+joined_none (Ok ps) = ap Ok (append-nil ps)
+joined_none (Err e) = refl
 
 -- what is given is given by its pairs
-pub given_pairs : (a : Answer (List Pair)) → is_given a ≡ true → a ≡ given (pairs_of a)
+pub given_pairs : (a : Result (List Pair) Refusal) → is_given a ≡ true → a ≡ Ok (pairs_of a)
 unfolding is_given pairs_of
-given_pairs (given ps) e = refl
-given_pairs (refused n) e = false_true e
+given_pairs (Ok ps) e = refl
+given_pairs (Err r) e = false_true e
+
+-- what is asked of one answer and of those behind it
+abbrev pub asked_then : Result (List Pair) Refusal → Result (List Pair) Refusal → Result (Unit {0}) Refusal
+asked_then (Ok ps) b = asked_of b
+asked_then (Err e) b = Err e
+
+asked_joined : (a b : Result (List Pair) Refusal) → asked_of (pairs_joined a b) ≡ asked_then a b
+unfolding pairs_joined asked_of
+asked_joined (Ok ps) (Ok qs) = refl
+asked_joined (Ok ps) (Err e) = refl
+asked_joined (Err e) b = refl
+
+-- what the refusal of an answer, or none, says of it
+abbrev pub Told : Result (List Pair) Refusal → Result (Unit {0}) Refusal → Type 0
+Told a (Ok u) = is_given a ≡ true
+Told a (Err e) = a ≡ Err e
+
+told_own : (a : Result (List Pair) Refusal) → Told a (asked_of a)
+unfolding asked_of is_given
+told_own (Ok ps) = refl
+told_own (Err e) = refl
+
+pub asked_told : (a : Result (List Pair) Refusal) {r : Result (Unit {0}) Refusal} → r ≡ asked_of a → Told a r
+asked_told a e = subst⁻¹ (Told a) e (told_own a)
 
 -- ---- the numbers of pairs
 
@@ -88,7 +111,7 @@ unfolding value_at
 at_few s o pos = value_few _ _
 
 -- what holds of the value of each version, of none and of 25 holds of the answer of some versions
-from_case : (P : Answer (List Pair) → Type 0) (s : List ℕ) (o : Opened) (limit : ℕ) → P (given []) → P (refused 25) → ((pos : ℕ) → P (given (value_at s o pos)))
+from_case : (P : Result (List Pair) Refusal → Type 0) (s : List ℕ) (o : Opened) (limit : ℕ) → P (Ok []) → P (Err refusal.Read) → ((pos : ℕ) → P (Ok (value_at s o pos)))
     → (n pos : ℕ) → P (first_within n s o pos limit)
 unfolding first_within
 from_case P s o limit empty fails holds zero pos = empty
@@ -97,12 +120,12 @@ from_case P s o limit empty fails holds (suc n) pos =
     (if_case P (readable s pos (value_end o.encoding)) _ _ (λ _. holds pos) (λ _. fails))
     (from_case P s o limit empty fails holds n (pos + version_len_of o.encoding))
   where
-    go : (read low : Bool) → P (when readable s pos (value_end o.encoding) then given (value_at s o pos) else refused 25)
+    go : (read low : Bool) → P (when readable s pos (value_end o.encoding) then Ok (value_at s o pos) else Err refusal.Read)
         → P (first_within n s o (pos + version_len_of o.encoding) limit)
         → P (elim read [
-          | false ↦ refused 25
+          | false ↦ Err refusal.Read
           | true ↦ elim low [
-            | true ↦ when readable s pos (value_end o.encoding) then given (value_at s o pos) else refused 25
+            | true ↦ when readable s pos (value_end o.encoding) then Ok (value_at s o pos) else Err refusal.Read
             | false ↦ first_within n s o (pos + version_len_of o.encoding) limit
           ]
         ])
@@ -116,16 +139,16 @@ from_few n s o pos limit = from_case (λ a. length (pairs_of a) ≤ 1) s o limit
 
 -- ---- a walk refuses with 25 alone
 
-abbrev Only25 : Answer (List Pair) → Type 0
-Only25 a = is_given a ≡ false → a ≡ refused 25
+abbrev Only25 : Result (List Pair) Refusal → Type 0
+Only25 a = is_given a ≡ false → a ≡ Err refusal.Read
 
-joined_25 : (a b : Answer (List Pair)) → Only25 a → Only25 b → Only25 (pairs_joined a b)
+joined_25 : (a b : Result (List Pair) Refusal) → Only25 a → Only25 b → Only25 (pairs_joined a b)
 unfolding pairs_joined is_given
-joined_25 (given ps) (given qs) p q e = false_true (sym e)
-joined_25 (given ps) (refused n) p q e = q e
-joined_25 (refused n) b p q e = p e
+joined_25 (Ok ps) (Ok qs) p q e = false_true (sym e)
+joined_25 (Ok ps) (Err r) p q e = q e
+joined_25 (Err r) b p q e = p e
 
-pub keys_25 : (n : ℕ) (s : List ℕ) (o : Opened) (limit at : ℕ) → is_given (values_from n s o limit at) ≡ false → values_from n s o limit at ≡ refused 25
+pub keys_25 : (n : ℕ) (s : List ℕ) (o : Opened) (limit at : ℕ) → is_given (values_from n s o limit at) ≡ false → values_from n s o limit at ≡ Err refusal.Read
 unfolding values_from key_value is_given
 keys_25 zero s o limit at = λ e. false_true (sym e)
 keys_25 (suc n) s o limit at =
@@ -139,21 +162,21 @@ module _ (s : List ℕ) (o : Opened) (limit at : ℕ) where
   abbrev pub stands : KeyHeader
   stands = key_header_at s o.encoding (o.arena + at)
 
-  pub keys_none : (n : ℕ) → n ≤ 0 → values_from n s o limit at ≡ given []
+  pub keys_none : (n : ℕ) → n ≤ 0 → values_from n s o limit at ≡ Ok []
   unfolding values_from
   keys_none n h = let e : n ≡ 0 = omega arith in ap (λ (k : ℕ). values_from k s o limit at) e
 
-  keys_more : (n : ℕ) → 0 < n → values_from n s o limit at ≡ pairs_joined (key_value s o limit at stands) (values_from (n - 1) s o limit (next_address_of o at stands))
+  keys_more : (n k : ℕ) → n ≡ suc k → values_from n s o limit at ≡ pairs_joined (key_value s o limit at stands) (values_from k s o limit (next_address_of o at stands))
   unfolding values_from
-  keys_more n h = let e : n ≡ suc (n - 1) = omega arith in ap (λ (k : ℕ). values_from k s o limit at) e
+  keys_more n k h = ap (λ (m : ℕ). values_from m s o limit at) h
 
   -- the value of the key
-  abbrev pub key : Answer (List Pair)
+  abbrev pub key : Result (List Pair) Refusal
   key = key_value s o limit at stands
 
   -- and those of the keys behind it
-  abbrev pub others : ℕ → Answer (List Pair)
-  others n = values_from (n - 1) s o limit (next_address_of o at stands)
+  abbrev pub others : ℕ → Result (List Pair) Refusal
+  others k = values_from k s o limit (next_address_of o at stands)
 
   -- one key alone
   pub one_key : values_from 1 s o limit at ≡ key
@@ -161,7 +184,7 @@ module _ (s : List ℕ) (o : Opened) (limit at : ℕ) where
   one_key = joined_none key
 
   -- a key header outside the section is not read
-  pub key_outside : length s < o.arena + at + key_header_len_of o.encoding → key ≡ refused 25
+  pub key_outside : length s < o.arena + at + key_header_len_of o.encoding → key ≡ Err refusal.Read
   unfolding key_value readable
   key_outside l = if_false _ _ _ (lt-leb (o.arena + at + key_header_len_of o.encoding) (length s) l)
 
@@ -198,54 +221,72 @@ module _ (s : List ℕ) (o : Opened) (limit at : ℕ) where
       go true p = leb-true _ _ p
       go false p = false_true (sym (ap is_given (key_outside (leb-false _ _ p))) ∙ e)
 
-  -- what was read of it says whether it is refused
-  pub key_told : (v : VersionRead) → value_read s o v ≡ key → {b : Bool} → is_failed v ≡ b → is_given key ≡ not b
-  key_told v e r = ap is_given (sym e) ∙ read_given s o v ∙ ap not r
+  found_left : (v : Option ℕ) (b : Result (List Pair) Refusal) → asked_then (value_read s o (Ok v)) b ≡ asked_of b
+  unfolding value_read
+  found_left (Some pos) b = refl
+  found_left None b = refl
+
+  found_given : (v : Option ℕ) → is_given (value_read s o (Ok v)) ≡ true
+  unfolding value_read is_given
+  found_given (Some pos) = refl
+  found_given None = refl
 
   key_few : length (pairs_of key) ≤ 1
   unfolding key_value pairs_of
   key_few = if_case (λ a. length (pairs_of a) ≤ 1) _ _ _ (λ _. from_few _ s o _ limit) (λ _. omega arith)
 
   -- a key that is refused refuses all, and one that is given leaves it to the others
-  pub key_judged : (n : ℕ) → 0 < n → is_given (values_from n s o limit at) ≡ both (is_given key) (is_given (others n))
-  key_judged n h = ap is_given (keys_more n h) ∙ given_joined _ _
+  pub key_asked : (n k : ℕ) → n ≡ suc k → asked_of (values_from n s o limit at) ≡ asked_then key (others k)
+  key_asked n k h = ap asked_of (keys_more n k h) ∙ asked_joined _ _
+
+  -- so does what was read of the key
+  module _ (r : Result (Option ℕ) Refusal) (read : value_read s o r ≡ key) where
+    pub key_left : {v : Option ℕ} → r ≡ Ok v → (n k : ℕ) → n ≡ suc k → asked_of (values_from n s o limit at) ≡ asked_of (others k)
+    key_left {v} e n k h = key_asked n k h ∙ ap (λ (a : Result (List Pair) Refusal). asked_then a (others k)) (sym read ∙ ap (value_read s o) e) ∙ found_left v (others k)
+
+    pub key_refused : {e : Refusal} → r ≡ Err e → (n k : ℕ) → n ≡ suc k → asked_of (values_from n s o limit at) ≡ Err e
+    unfolding value_read
+    key_refused e n k h = key_asked n k h ∙ ap (λ (a : Result (List Pair) Refusal). asked_then a (others k)) (sym read ∙ ap (value_read s o) e)
+
+    pub key_is_given : {v : Option ℕ} → r ≡ Ok v → is_given key ≡ true
+    key_is_given {v} e = sym (ap is_given (sym (ap (value_read s o) e) ∙ read)) ∙ found_given v
 
   -- where nothing is refused, neither this key nor the others are, and the pairs of both are those of all
-  pub key_given : (n : ℕ) → 0 < n → is_given (values_from n s o limit at) ≡ true
-      → (is_given key ≡ true) × (is_given (others n) ≡ true) × (pairs_of (values_from n s o limit at) ≡ pairs_of key ++ pairs_of (others n))
-  key_given n h e =
-      let m = keys_more n h in
-      let b = both_true _ _ (sym (key_judged n h) ∙ e) in
-      (b.0, b.1, ap pairs_of m ∙ pairs_joined_lem key (others n) (sym (ap is_given m) ∙ e))
+  pub key_given : (n k : ℕ) → n ≡ suc k → is_given (values_from n s o limit at) ≡ true
+      → (is_given key ≡ true) × (is_given (others k) ≡ true) × (pairs_of (values_from n s o limit at) ≡ pairs_of key ++ pairs_of (others k))
+  key_given n k h e =
+      let m = keys_more n k h in
+      let b = both_true _ _ (sym (ap is_given m ∙ given_joined _ _) ∙ e) in
+      (b.0, b.1, ap pairs_of m ∙ pairs_joined_lem key (others k) (sym (ap is_given m) ∙ e))
 
   -- once its pair is stored, the pairs of the others are to be stored behind it
-  pub key_stored : (n : ℕ) → 0 < n → is_given (values_from n s o limit at) ≡ true → (l : List ℕ) (to : ℕ) {m : List ℕ} {next : ℕ}
+  pub key_stored : (n k : ℕ) → n ≡ suc k → is_given (values_from n s o limit at) ≡ true → (l : List ℕ) (to : ℕ) {m : List ℕ} {next : ℕ}
       → next ≡ to + 2 * length (pairs_of key) → m ≡ sets l to (pair_numbers (pairs_of key))
-      → (next ≤ to + 2) × (length m ≡ length l) × (next + 2 * length (pairs_of (others n)) ≡ to + 2 * length (pairs_of (values_from n s o limit at)))
-      × (sets m next (pair_numbers (pairs_of (others n))) ≡ sets l to (pair_numbers (pairs_of (values_from n s o limit at))))
-  key_stored n h e l to en em =
-      let g = (key_given n h e).2 in
+      → (next ≤ to + 2) × (length m ≡ length l) × (next + 2 * length (pairs_of (others k)) ≡ to + 2 * length (pairs_of (values_from n s o limit at)))
+      × (sets m next (pair_numbers (pairs_of (others k))) ≡ sets l to (pair_numbers (pairs_of (values_from n s o limit at))))
+  key_stored n k h e l to en em =
+      let g = (key_given n k h e).2 in
       let f = key_few in
-      let k = length-append (pairs_of key) (pairs_of (others n)) in
+      let sum = length-append (pairs_of key) (pairs_of (others k)) in
       let a = ap length g in (
         omega arith,
         ap length em ∙ length-sets l to (pair_numbers (pairs_of key)),
         omega arith,
-        ap₂ (λ (r : List ℕ) (i : ℕ). sets r i (pair_numbers (pairs_of (others n)))) em en
-            ∙ pairs_stored l to (pairs_of key) (pairs_of (others n))
+        ap₂ (λ (r : List ℕ) (i : ℕ). sets r i (pair_numbers (pairs_of (others k)))) em en
+            ∙ pairs_stored l to (pairs_of key) (pairs_of (others k))
             ∙ ap (λ (ps : List Pair). sets l to (pair_numbers ps)) (sym g),
       )
 
 -- ---- the answers
 
-module _ (a : Answer (List Pair)) (l : List ℕ) where
-  pub refused_told : {n : ℕ} → a ≡ refused n → (Refused n ≡ spanned_read a) × (l ≡ pairs_written a l)
+module _ (a : Result (List Pair) Refusal) (l : List ℕ) where
+  pub refused_told : {e : Refusal} → a ≡ Err e → (Err e ≡ spanned_read a) × (l ≡ pairs_written a l)
   unfolding spanned_read pairs_written
-  refused_told e = (sym (ap spanned_read e), sym (ap (λ (x : Answer (List Pair)). pairs_written x l) e))
+  refused_told e = (sym (ap spanned_read e), sym (ap (λ (x : Result (List Pair) Refusal). pairs_written x l) e))
 
-  pub pairs_told_lem : {ps : List Pair} → a ≡ given ps → {n : ℕ} {m : List ℕ} → n ≡ length ps → m ≡ sets l 0 (pair_numbers ps) → (Pairs n ≡ spanned_read a) × (m ≡ pairs_written a l)
+  pub pairs_told_lem : {ps : List Pair} → a ≡ Ok ps → {n : ℕ} {m : List ℕ} → n ≡ length ps → m ≡ sets l 0 (pair_numbers ps) → (Ok n ≡ spanned_read a) × (m ≡ pairs_written a l)
   unfolding spanned_read pairs_written
-  pairs_told_lem e en em = (ap Pairs en ∙ sym (ap spanned_read e), em ∙ sym (ap (λ (x : Answer (List Pair)). pairs_written x l) e))
+  pairs_told_lem e en em = (ap Ok en ∙ sym (ap spanned_read e), em ∙ sym (ap (λ (x : Result (List Pair) Refusal). pairs_written x l) e))
 
-  pub given_told : is_given a ≡ true → {n : ℕ} {m : List ℕ} → n ≡ length (pairs_of a) → m ≡ sets l 0 (pair_numbers (pairs_of a)) → (Pairs n ≡ spanned_read a) × (m ≡ pairs_written a l)
+  pub given_told : is_given a ≡ true → {n : ℕ} {m : List ℕ} → n ≡ length (pairs_of a) → m ≡ sets l 0 (pair_numbers (pairs_of a)) → (Ok n ≡ spanned_read a) × (m ≡ pairs_written a l)
   given_told t = pairs_told_lem (given_pairs a t)

@@ -1,11 +1,12 @@
 -- Not on the reading path: what the contracts of private functions speak of.
-use Rattle.std.specs.Prelude.{◌≡◌, List, [], Bool, true, false, ℕ, ◌+◌, ◌^◌, ◌<◌, ◌≤◌, length}
-use Rattle.num.specs.Answer.{Answer, given, refused}
+use Rattle.std.specs.Prelude.{◌≡◌, List, [], Bool, true, false, ℕ, ◌+◌, ◌^◌, ◌<◌, ◌≤◌, length, Option, Some, None, Result, Ok, Err}
+use Rattle.refusal.specs.declared.Refusal.{Refusal}
+use Rattle.refusal.specs.declared.Refusal.TheVariants as refusal
+use Rattle.num.specs.Choice.{ask◌otherwise◌then◌}
 use Rattle.encoding.specs.Encoding.{Widths}
 use Rattle.header.specs.declared.Opened.{Opened}
+use Rattle.locator.specs.Locator.{readable}
 use Rattle.spans.specs.Span.{Pair, value_end, value_at}
-use Rattle.spans.specs.declared.VersionRead.{VersionRead}
-use Rattle.spans.specs.declared.VersionRead.TheVariants.{At, Absent, Failed}
 
 -- what reading counts on, of a record that passed 24 and 27
 pub record Spannable (o : Opened) : Type 0 where
@@ -13,29 +14,40 @@ pub record Spannable (o : Opened) : Type 0 where
   pub four : o.encoding.address ≡ 4
   pub arena : o.arena < 2 ^ 36
 
+-- what the version at a place answers, if it is the first within the limit
+abbrev pub met_at : List ℕ → Opened → ℕ → Result (List Pair) Refusal
+met_at s o pos = ask readable s pos (value_end o.encoding) otherwise Err refusal.Read then Ok (value_at s o pos)
+
+-- what the place of the first version within a limit tells of an answer, where each version was asked for some bytes of room; those of its sequence
+-- alone are asked for by 25
+unfoldable pub Placed : Result (Option ℕ) Refusal → List ℕ → Opened → ℕ → Result (List Pair) Refusal → Type 0
+Placed (Ok (Some pos)) s o room a = (a ≡ met_at s o pos) × (pos + room ≤ length s)
+Placed (Ok None) s o room a = a ≡ Ok []
+Placed (Err e) s o room a = room ≡ o.encoding.seq → a ≡ Err e
+
 -- the answer of what was read of a key
-unfoldable pub value_read : List ℕ → Opened → VersionRead → Answer (List Pair)
-value_read s o (At pos) = given (value_at s o pos)
-value_read s o Absent = given []
-value_read s o Failed = refused 25
+unfoldable pub value_read : List ℕ → Opened → Result (Option ℕ) Refusal → Result (List Pair) Refusal
+value_read s o (Ok (Some pos)) = Ok (value_at s o pos)
+value_read s o (Ok None) = Ok []
+value_read s o (Err e) = Err e
 
 -- a version that was read lies in the section
-unfoldable pub Inside : List ℕ → Opened → VersionRead → Type 0
-Inside s o (At pos) = pos + value_end o.encoding ≤ length s
-Inside s o Absent = Unit {0}
-Inside s o Failed = Unit {0}
+unfoldable pub Inside : List ℕ → Opened → Result (Option ℕ) Refusal → Type 0
+Inside s o (Ok (Some pos)) = pos + value_end o.encoding ≤ length s
+Inside s o (Ok None) = Unit {0}
+Inside s o (Err e) = Unit {0}
 
-unfoldable pub is_failed : VersionRead → Bool
-is_failed (At pos) = false
-is_failed Absent = false
-is_failed Failed = true
+-- the refusal of an answer, or nothing
+unfoldable pub asked_of : Result (List Pair) Refusal → Result (Unit {0}) Refusal
+asked_of (Ok ps) = Ok tt
+asked_of (Err e) = Err e
 
 -- was nothing refused?
-unfoldable pub is_given : Answer (List Pair) → Bool
-is_given (given ps) = true
-is_given (refused n) = false
+unfoldable pub is_given : Result (List Pair) Refusal → Bool
+is_given (Ok ps) = true
+is_given (Err e) = false
 
 -- the pairs of an answer, none of a refusal
-unfoldable pub pairs_of : Answer (List Pair) → List Pair
-pairs_of (given ps) = ps
-pairs_of (refused n) = []
+unfoldable pub pairs_of : Result (List Pair) Refusal → List Pair
+pairs_of (Ok ps) = ps
+pairs_of (Err e) = []

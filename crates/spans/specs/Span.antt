@@ -1,7 +1,8 @@
 -- Spans: questions 24, 27, 28, 29 and 25 (document 01, "Spans").
-use Rattle.std.specs.Prelude.{ℕ, zero, suc, ◌+◌, ◌*◌, ◌%◌, ◌^◌, List, [], ◌∷◌, ◌++◌, Bool, true, false, not, eqb, leb, ltb, length}
+use Rattle.std.specs.Prelude.{ℕ, zero, suc, ◌+◌, ◌*◌, ◌%◌, ◌^◌, List, [], ◌∷◌, ◌++◌, Bool, true, false, not, eqb, leb, ltb, length, Result, Ok, Err}
 use Rattle.std.proofs.lemmas.List.Edits.{sets}
-use Rattle.num.specs.Answer.{Answer, given, refused}
+use Rattle.refusal.specs.declared.Refusal.{Refusal}
+use Rattle.refusal.specs.declared.Refusal.TheVariants as refusal
 use Rattle.num.specs.Choice.{ask◌otherwise◌then◌, both}
 use Rattle.num.specs.Number.{le_at}
 use Rattle.sstable.specs.declared.Kind.{Kind}
@@ -14,8 +15,6 @@ use Rattle.arena.specs.declared.KeyHeader.{KeyHeader}
 use Rattle.arena.specs.Key.{key_header_at}
 use Rattle.versions.specs.Version.{stored_seq, stored_value, kind_in, length_in, stored_offset}
 use Rattle.locator.specs.Locator.{readable}
-use Rattle.spans.specs.declared.Spanned.{Spanned}
-use Rattle.spans.specs.declared.Spanned.TheVariants.{Pairs, Refused}
 
 -- where a value lies in the data
 pub record Pair : Type 0 where
@@ -46,13 +45,13 @@ value_at s o pos =
 
 -- some versions from a place on: the value of the first whose sequence is not above the limit. Each sequence is read, and its sum must be
 -- below 2^64 (25); the rest is read only of that version, of a tombstone too.
-unfoldable pub first_within : ℕ → List ℕ → Opened → ℕ → ℕ → Answer (List Pair)
-first_within zero s o pos limit = given []
+unfoldable pub first_within : ℕ → List ℕ → Opened → ℕ → ℕ → Result (List Pair) Refusal
+first_within zero s o pos limit = Ok []
 first_within (suc count) s o pos limit =
     elim (both (readable s pos o.encoding.seq) (ltb (stored_seq s o pos) (2 ^ 64))) [
-      | false ↦ refused 25
+      | false ↦ Err refusal.Read
       | true ↦ elim (leb (stored_seq s o pos) limit) [
-        | true ↦ ask readable s pos (value_end o.encoding) otherwise refused 25 then given (value_at s o pos)
+        | true ↦ ask readable s pos (value_end o.encoding) otherwise Err refusal.Read then Ok (value_at s o pos)
         | false ↦ first_within count s o (pos + version_len_of o.encoding) limit
       ]
     ]
@@ -63,9 +62,9 @@ versions_start o h = key_header_len_of o.encoding + h.suffix_len
 
 -- the value of the key whose record stands at an address. Of its key header the last two numbers are read, suffix length and number of versions, so
 -- the header must end inside the section (25).
-unfoldable pub key_value : List ℕ → Opened → ℕ → ℕ → KeyHeader → Answer (List Pair)
+unfoldable pub key_value : List ℕ → Opened → ℕ → ℕ → KeyHeader → Result (List Pair) Refusal
 key_value s o limit address h =
-    ask readable s (o.arena + address) (key_header_len_of o.encoding) otherwise refused 25 then
+    ask readable s (o.arena + address) (key_header_len_of o.encoding) otherwise Err refusal.Read then
     first_within h.versions s o (o.arena + address + versions_start o h) limit
 
 -- the address behind that key record, modulo 2^32
@@ -73,25 +72,25 @@ unfoldable pub next_address_of : Opened → ℕ → KeyHeader → ℕ
 next_address_of o address h = (address + versions_start o h + h.versions * version_len_of o.encoding) % 2 ^ 32
 
 -- one key's answer before that of the keys behind it
-unfoldable pub pairs_joined : Answer (List Pair) → Answer (List Pair) → Answer (List Pair)
-pairs_joined (given ps) (given qs) = given (ps ++ qs)
-pairs_joined (given ps) (refused n) = refused n
-pairs_joined (refused n) rest = refused n
+unfoldable pub pairs_joined : Result (List Pair) Refusal → Result (List Pair) Refusal → Result (List Pair) Refusal
+pairs_joined (Ok ps) (Ok qs) = Ok (ps ++ qs)
+pairs_joined (Ok ps) (Err e) = Err e
+pairs_joined (Err e) rest = Err e
 
 -- the key records one behind the other from an address on, so many of them
-unfoldable pub values_from : ℕ → List ℕ → Opened → ℕ → ℕ → Answer (List Pair)
-values_from zero s o limit address = given []
+unfoldable pub values_from : ℕ → List ℕ → Opened → ℕ → ℕ → Result (List Pair) Refusal
+values_from zero s o limit address = Ok []
 values_from (suc count) s o limit address =
     pairs_joined (key_value s o limit address (key_header_at s o.encoding (o.arena + address)))
     (values_from count s o limit (next_address_of o address (key_header_at s o.encoding (o.arena + address))))
 
 -- the span of `count` keys from key `first` on under a limit, for an output of so many places
-unfoldable pub span_of : List ℕ → Opened → ℕ → ℕ → ℕ → ℕ → Answer (List Pair)
+unfoldable pub span_of : List ℕ → Opened → ℕ → ℕ → ℕ → ℕ → Result (List Pair) Refusal
 span_of s o first count limit places =
-    ask is_record_of s o otherwise refused 24 then
-    ask scannable o otherwise refused 27 then
-    ask leb (first + count) o.count otherwise refused 28 then
-    ask leb (2 * count) places otherwise refused 29 then
+    ask is_record_of s o otherwise Err refusal.RecordGiven then
+    ask scannable o otherwise Err refusal.NoSpans then
+    ask leb (first + count) o.count otherwise Err refusal.SpanKeys then
+    ask leb (2 * count) places otherwise Err refusal.SpanRoom then
     values_from count s o limit (scan_address s o first)
 
 -- the numbers of the pairs: offset, length, offset, length, ..
@@ -100,21 +99,16 @@ pair_numbers [] = []
 pair_numbers (p ∷ ps) = p.offset ∷ p.len ∷ pair_numbers ps
 
 -- the places behind a span: the pairs and behind them what stood there, or on a refusal what stood there
-unfoldable pub pairs_written : Answer (List Pair) → List ℕ → List ℕ
-pairs_written (given ps) before = sets before 0 (pair_numbers ps)
-pairs_written (refused n) before = before
+unfoldable pub pairs_written : Result (List Pair) Refusal → List ℕ → List ℕ
+pairs_written (Ok ps) before = sets before 0 (pair_numbers ps)
+pairs_written (Err e) before = before
 
--- what a span answers: how many pairs there are, or the number of the first question that is answered with no
-unfoldable pub spanned_read : Answer (List Pair) → Spanned
-spanned_read (given ps) = Pairs (length ps)
-spanned_read (refused n) = Refused n
-
--- that number, 0 where pairs are given
-unfoldable pub spanned_number : Spanned → ℕ
-spanned_number (Pairs n) = 0
-spanned_number (Refused n) = n
+-- what a span answers: how many pairs there are, or the first question that is answered with no
+unfoldable pub spanned_read : Result (List Pair) Refusal → Result ℕ Refusal
+spanned_read (Ok ps) = Ok (length ps)
+spanned_read (Err e) = Err e
 
 -- for proofs alone: `unfolding span_defs` opens the definitions of this file
 unfoldable pub span_defs : ℕ
-unfolding scannable scan_address value_end unless_tombstone value_at first_within versions_start key_value next_address_of pairs_joined values_from span_of pair_numbers pairs_written spanned_read spanned_number
+unfolding scannable scan_address value_end unless_tombstone value_at first_within versions_start key_value next_address_of pairs_joined values_from span_of pair_numbers pairs_written spanned_read
 span_defs = 0

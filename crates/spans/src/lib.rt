@@ -1,66 +1,101 @@
 // Spans: the values of some keys, one behind the other, as pairs of offset and length.
 #![tactic(auto)]
 
-ghost use Rattle.std.specs.Prelude.{◌≡◌, true, ◌+◌, ◌*◌, ◌^◌, ◌<◌, ◌≤◌, length};
+ghost use Rattle.std.specs.Prelude.{◌≡◌, ℕ, true, ◌+◌, ◌*◌, ◌^◌, ◌<◌, ◌≤◌, length};
 ghost use Rattle.std.proofs.lemmas.List.Edits.{sets};
+ghost use Rattle.num.specs.Number.{le_at, is_width};
 ghost use Rattle.encoding.specs.Encoding.{key_header_len_of};
 ghost use Rattle.arena.specs.Key.{key_header_at};
 ghost use Rattle.spans.specs.Span.{value_end, value_at, first_within, key_value, next_address_of, values_from, pair_numbers, pairs_written, spanned_read};
-ghost use Rattle.spans.specs.Internal.{Spannable, Inside, value_read, is_failed, is_given, pairs_of};
+ghost use Rattle.spans.specs.Internal.{Spannable, Placed, Inside, value_read, asked_of, is_given, pairs_of};
 
 use header::Opened;
+use num::LittleEndian;
+use refusal::Refusal;
 
-// How many pairs there are, or the number of the question that failed.
-#[derive(Clone, Copy)]
-pub enum Spanned {
-    Pairs(u64),
-    Refused(u64),
+// How a number of a width that is known at run time is read, and how many bytes have to stand behind it for that.
+pub trait Reads {
+    ghost BEHIND: { ℕ };
+
+    fn number(section: &[u8], at: usize, width: usize) -> u64
+        requires { (at + width + BEHIND ≤ length section.now) × (is_width width ≡ true) }
+        ensures { result ≡ le_at section.now at width };
 }
 
-// What is read of a key's versions: the place of the first within the limit, that there is none, or that 25 fails.
-#[derive(Clone, Copy)]
-enum VersionRead {
-    At(usize),
-    Absent,
-    Failed,
+// Its own bytes alone.
+pub struct Exact;
+
+impl Reads for Exact {
+    ghost BEHIND = { 0 };
+
+    fn number(section: &[u8], at: usize, width: usize) -> u64 {
+        num::uint(section, at, width)
+    }
 }
 
-// The first of some versions within a limit. A stored number above `most` has a sum beyond 64 bits.
-fn newest(section: &[u8], o: Opened, count: usize, from: usize, limit: u64) -> VersionRead
+// The place of the first of some versions within a limit, each of which is asked for `room` bytes. A stored number above `most` has a sum beyond 64
+// bits.
+pub fn place_within<R: Reads>(
+    section: &[u8],
+    o: Opened,
+    count: usize,
+    from: usize,
+    limit: u64,
+    room: usize,
+) -> Result<Option<usize>, Refusal>
+    requires spannable { Spannable o }
+    requires from_bound { from < 2 ^ 40 }
+    requires room_bound { (o.encoding.seq + R.BEHIND ≤ room) × (room < 2 ^ 10) }
+    ensures { Placed result section.now o room (first_within count section.now o from limit) }
+{
+    let e = o.encoding;
+    let size = e.version();
+    let most = u64::MAX - o.min_seq;
+    let mut pos = from;
+    for _ in 0..count {
+        if section.len() < pos + room {
+            return Err(Refusal::Read);
+        }
+        let stored = R::number(section, pos, e.seq);
+        if most < stored {
+            return Err(Refusal::Read);
+        }
+        if o.min_seq + stored <= limit {
+            return Ok(Some(pos));
+        }
+        pos += size;
+    }
+    Ok(None)
+}
+
+// The first of some versions within a limit. Of those before it the sequence alone is read.
+fn newest(
+    section: &[u8],
+    o: Opened,
+    count: usize,
+    from: usize,
+    limit: u64,
+) -> Result<Option<usize>, Refusal>
     requires spannable { Spannable o }
     requires from_bound { from < 2 ^ 40 }
     ensures { (value_read section.now o result ≡ first_within count section.now o from limit) × Inside section.now o result }
 {
     let e = o.encoding;
-    let width = e.seq;
-    let end = width + e.value + e.address;
-    let size = e.version();
-    let most = 0xFFFF_FFFF_FFFF_FFFF - o.min_seq;
-    let mut pos = from;
-    let mut left = count;
-    while 0 < left {
-        if section.len() < pos + width {
-            return VersionRead::Failed;
+    let end = e.seq + e.value + e.address;
+    match place_within::<Exact>(section, o, count, from, limit, e.seq) {
+        Ok(Some(pos)) => {
+            if section.len() < pos + end {
+                return Err(Refusal::Read);
+            }
+            Ok(Some(pos))
         }
-        let stored = num::uint(section, pos, width);
-        if most < stored {
-            return VersionRead::Failed;
-        }
-        if o.min_seq + stored <= limit {
-            return if pos + end <= section.len() {
-                VersionRead::At(pos)
-            } else {
-                VersionRead::Failed
-            };
-        }
-        pos += size;
-        left -= 1;
+        Ok(None) => Ok(None),
+        Err(refusal) => Err(refusal),
     }
-    VersionRead::Absent
 }
 
 // The key whose record stands at an address.
-fn key_read(section: &[u8], o: Opened, address: usize, limit: u64) -> VersionRead
+fn key_read(section: &[u8], o: Opened, address: usize, limit: u64) -> Result<Option<usize>, Refusal>
     requires spannable { Spannable o }
     requires address_bound { address < 2 ^ 32 }
     ensures { (value_read section.now o result ≡ key_value section.now o limit address (key_header_at section.now o.encoding (o.arena + address))) × Inside section.now o result }
@@ -69,7 +104,7 @@ fn key_read(section: &[u8], o: Opened, address: usize, limit: u64) -> VersionRea
     let pos = o.arena + address;
     let header = e.key_header();
     if section.len() < pos + header {
-        return VersionRead::Failed;
+        return Err(Refusal::Read);
     }
     let h = arena::key_header_at(section, e, pos);
     newest(section, o, h.versions, pos + (header + h.suffix_len), limit)
@@ -88,37 +123,40 @@ fn next_address(section: &[u8], o: Opened, address: usize) -> usize
     (address + start + h.versions * e.version()) % 0x1_0000_0000
 }
 
-fn is_failed(read: VersionRead) -> bool
-    ensures { result ≡ is_failed read }
-{
-    match read {
-        VersionRead::At(_) => false,
-        VersionRead::Absent => false,
-        VersionRead::Failed => true,
-    }
-}
-
 // Writes the value of the version at a place, unless it is a tombstone, and answers where the next pair goes.
-fn put_version(section: &[u8], o: Opened, pos: usize, pairs: &mut [u64], to: usize) -> usize
+pub fn put_version<R: Reads>(
+    section: &[u8],
+    o: Opened,
+    pos: usize,
+    pairs: &mut [u64],
+    to: usize,
+) -> usize
     requires spannable { Spannable o }
-    requires encoding_in_bounds { pos + value_end o.encoding ≤ length section.now }
+    requires encoding_in_bounds { pos + value_end o.encoding + R.BEHIND ≤ length section.now }
     requires to_in_bounds { to + 2 ≤ length pairs.old }
     ensures { (result ≡ to + 2 * length (value_at section.now o pos))
         × (pairs.new ≡ sets pairs.old to (pair_numbers (value_at section.now o pos))) }
 {
     let e = o.encoding;
     let value = pos + e.seq;
-    let stored = num::uint(section, value, e.value);
+    let stored = R::number(section, value, e.value);
     if e.tombstone() <= stored {
         return to;
     }
-    pairs[to] = num::u32_at(section, value + e.value) as u64;
+    pairs[to] = u32::read(section, value + e.value) as u64;
     pairs[to + 1] = stored;
     to + 2
 }
 
 // Writes the value of the version that was read, unless it is a tombstone or there is none, and answers where the next pair goes.
-fn put_value(section: &[u8], o: Opened, read: VersionRead, pairs: &mut [u64], to: usize) -> usize
+#[tactic(auto, unfolding(crate::specs::Internal::Inside, crate::specs::Internal::value_read, crate::specs::Internal::pairs_of, crate::specs::Span::pair_numbers))]
+fn put_value(
+    section: &[u8],
+    o: Opened,
+    read: Result<Option<usize>, Refusal>,
+    pairs: &mut [u64],
+    to: usize,
+) -> usize
     requires spannable { Spannable o }
     requires inside { Inside section.now o read }
     requires to_in_bounds { to + 2 ≤ length pairs.old }
@@ -126,28 +164,29 @@ fn put_value(section: &[u8], o: Opened, read: VersionRead, pairs: &mut [u64], to
         × (pairs.new ≡ sets pairs.old to (pair_numbers (pairs_of (value_read section.now o read)))) }
 {
     match read {
-        VersionRead::At(pos) => put_version(section, o, pos, pairs, to),
-        VersionRead::Absent => to,
-        VersionRead::Failed => to,
+        Ok(Some(pos)) => put_version::<Exact>(section, o, pos, pairs, to),
+        Ok(None) | Err(_) => to,
     }
 }
 
 // Question 25 of some keys under a limit, one key record behind the other from an address on.
-fn keys_read(section: &[u8], o: Opened, count: u64, address: usize, limit: u64) -> bool
+fn keys_read(
+    section: &[u8],
+    o: Opened,
+    count: u64,
+    address: usize,
+    limit: u64,
+) -> Result<(), Refusal>
     requires spannable { Spannable o }
     requires address_bound { address < 2 ^ 32 }
-    ensures { result ≡ is_given (values_from count section.now o limit address) }
+    ensures { result ≡ asked_of (values_from count section.now o limit address) }
 {
     let mut at = address;
-    let mut left = count;
-    while 0 < left {
-        if is_failed(key_read(section, o, at, limit)) {
-            return false;
-        }
+    for _ in 0..count {
+        key_read(section, o, at, limit)?;
         at = next_address(section, o, at);
-        left -= 1;
     }
-    true
+    Ok(())
 }
 
 // Writes the values of some keys, all of which were read before, and answers how many there are.
@@ -168,12 +207,10 @@ fn put_values(
 {
     let mut at = address;
     let mut to = 0;
-    let mut left = count;
-    while 0 < left {
+    for _ in 0..count {
         let read = key_read(section, o, at, limit);
         to = put_value(section, o, read, pairs, to);
         at = next_address(section, o, at);
-        left -= 1;
     }
     to as u64 / 2
 }
@@ -186,15 +223,13 @@ pub fn values_from(
     address: usize,
     limit: u64,
     pairs: &mut [u64],
-) -> Spanned
+) -> Result<u64, Refusal>
     requires spannable { Spannable o }
     requires address_bound { address < 2 ^ 32 }
     requires count_in_bounds { 2 * count ≤ length pairs.old }
     ensures { (result ≡ spanned_read (values_from count section.now o limit address))
         × (pairs.new ≡ pairs_written (values_from count section.now o limit address) pairs.old) }
 {
-    if !keys_read(section, o, count, address, limit) {
-        return Spanned::Refused(25);
-    }
-    Spanned::Pairs(put_values(section, o, count, address, limit, pairs))
+    keys_read(section, o, count, address, limit)?;
+    Ok(put_values(section, o, count, address, limit, pairs))
 }

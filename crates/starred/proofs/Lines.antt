@@ -5,7 +5,7 @@ use Rattle.num.specs.Choice.{choice_defs}
 use Rattle.num.specs.Number.{le_at, le_bytes}
 use Rattle.num.specs.Order.{common_prefix_len, less_than, equal_bytes}
 use Rattle.crc32.specs.V42.{crc_defs}
-use Rattle.sstable.specs.Kind.{kind_number, kind_of}
+use Rattle.sstable.specs.Kind.{kind_of}
 use Rattle.sstable.specs.Limits.{limit_defs}
 use Rattle.sstable.specs.Trailer.{trailer_defs}
 use Rattle.block.specs.Verify.{verify_defs}
@@ -40,5 +40,5 @@ use Rattle.worked.specs.Worked.{worked_defs}
 use Rattle.starred.specs.Lines.{section_with, bytes_of, three_added, added_from, state_for, offer_for, LinesHold, starred_lines, answer_to, number_told, version_told, located_told, lookup_told, packed_lookup_told, packed_len_told, pairs_told, span_told, with_pilot, sealed_with, opening_with, packing_with}
 
 pub lines_hold : LinesHold
-unfolding LinesHold starred_lines answer_to number_told version_told located_told lookup_told packed_lookup_told packed_len_told pairs_told span_told with_pilot sealed_with opening_with packing_with section_with bytes_of three_added added_from state_for offer_for value_of worked_defs write_defs section_defs arena_written_defs joined fields_bytes read_back_defs add_defs builder_defs offer_defs area_defs construct_defs class_defs encoding_defs hash_defs limit_defs kind_number crc_defs common_prefix_len equal_bytes le_at le_bytes choice_defs open_defs walk_defs version_defs key_defs header_defs opened_defs less_than trailer_defs verify_defs record_at_defs entry_header_defs block_walk_defs kind_of packed_defs packing_defs locator_defs lookup_defs span_defs
+unfolding LinesHold starred_lines answer_to number_told version_told located_told lookup_told packed_lookup_told packed_len_told pairs_told span_told with_pilot sealed_with opening_with packing_with section_with bytes_of three_added added_from state_for offer_for value_of worked_defs write_defs section_defs arena_written_defs joined fields_bytes read_back_defs add_defs builder_defs offer_defs area_defs construct_defs class_defs encoding_defs hash_defs limit_defs crc_defs common_prefix_len equal_bytes le_at le_bytes choice_defs open_defs walk_defs version_defs key_defs header_defs opened_defs less_than trailer_defs verify_defs record_at_defs entry_header_defs block_walk_defs kind_of packed_defs packing_defs locator_defs lookup_defs span_defs
 lines_hold = refl

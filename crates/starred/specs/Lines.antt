@@ -1,21 +1,20 @@
 -- Document 01's starred lines ("One store, worked through") in one array: a question and its answer, one element each.
-use Rattle.std.specs.Prelude.{◌≡◌, Bool, true, false, List, [], ◌∷◌, ◌++◌, map, ℕ, ◌+◌, length, take, replicate}
+use Rattle.std.specs.Prelude.{◌≡◌, Bool, true, false, List, [], ◌∷◌, ◌++◌, map, ℕ, ◌+◌, length, take, replicate, Some, None, Result, Ok, Err}
 use Rattle.std.proofs.lemmas.List.Edits.{sets}
-use Rattle.num.specs.Answer.{Answer, given, refused}
 use Rattle.num.specs.Number.{le_at, le_bytes}
+use Rattle.refusal.specs.declared.Refusal.{Refusal}
+use Rattle.refusal.specs.Refusal.{refusal_number}
+use Rattle.header.specs.declared.Opened.{Opened}
 use Rattle.crc32.specs.V42.{crc_of}
 use Rattle.sstable.specs.declared.Kind.{Kind}
 use Rattle.sstable.specs.declared.Kind.TheVariants.{Put, Tombstone}
 use Rattle.block.specs.Walk.{Entry}
 use Rattle.encoding.specs.Encoding.{width_of, value_width_of}
-use Rattle.header.specs.declared.HeaderRead.{HeaderRead}
-use Rattle.header.specs.declared.HeaderRead.TheVariants as header_read
 use Rattle.validate.specs.Walk.{value_of}
 use Rattle.opening.specs.Open.{open_of}
 use Rattle.packed.specs.Packed.{packed_pilots}
 use Rattle.packing.specs.Packing.{PackedForm, open_packed_of}
-use Rattle.locator.specs.declared.Located.{Located}
-use Rattle.locator.specs.declared.Located.TheVariants as located
+use Rattle.locator.specs.Locator.{Located}
 use Rattle.lookup.specs.Lookup.{locate_of, no_limit}
 use Rattle.builder.specs.Offer.{Offer}
 use Rattle.builder.specs.Record.{empty_builder, size_of_section}
@@ -31,9 +30,9 @@ unfoldable pub offer_for : Entry → Bool → Offer
 offer_for e new = record { kind = e.kind; key = e.key; value = value_of worked_data e; seq = e.seq; new_key = new; offset = e.place }
 
 -- the state behind an add; a refused one leaves it
-unfoldable pub state_for : BuilderState → Answer BuilderState → BuilderState
-state_for before (given after) = after
-state_for before (refused n) = before
+unfoldable pub state_for : BuilderState → Result BuilderState Refusal → BuilderState
+state_for before (Ok after) = after
+state_for before (Err n) = before
 
 -- records added one after another, with their marks: a new key or not
 unfoldable pub added_from : BuilderState → List Entry → List Bool → BuilderState
@@ -46,9 +45,9 @@ unfoldable pub three_added : BuilderState
 three_added = added_from (record { area = replicate 200 0; builder = empty_builder }) worked_entries (true ∷ false ∷ true ∷ [])
 
 -- the section that is written with a scan prefix, no bytes if writing refuses
-unfoldable pub bytes_of : Answer (List ℕ) → List ℕ
-bytes_of (given s) = s
-bytes_of (refused n) = []
+unfoldable pub bytes_of : Result (List ℕ) Refusal → List ℕ
+bytes_of (Ok s) = s
+bytes_of (Err n) = []
 
 unfoldable pub section_with : ℕ → List ℕ
 section_with prefix = bytes_of (write_of three_added.area three_added.builder prefix 2 20 200)
@@ -85,9 +84,9 @@ pub data Told : Type 0 where
   bytes : List ℕ → Told
   refusal : ℕ → Told
 
-unfoldable pub number_told : Answer ℕ → Told
-number_told (given n) = number n
-number_told (refused n) = refusal n
+unfoldable pub number_told : Result ℕ Refusal → Told
+number_told (Ok n) = number n
+number_told (Err n) = refusal (refusal_number n)
 
 -- the sequence of a version, by its kind
 unfoldable pub version_told : Kind → ℕ → Told
@@ -95,31 +94,31 @@ version_told Put seq = version seq
 version_told Tombstone seq = tombstone seq
 
 unfoldable pub located_told : Located → Told
-located_told (located.Found l) = version_told l.kind l.seq
-located_told located.Missing = none
-located_told (located.Refused n) = refusal n
+located_told (Ok (Some l)) = version_told l.kind l.seq
+located_told (Ok None) = none
+located_told (Err n) = refusal (refusal_number n)
 
 -- a lookup in an opened section, and in a packed form
-unfoldable pub lookup_told : List ℕ → List ℕ → ℕ → HeaderRead → Told
-lookup_told s key limit (header_read.Accepted o) = located_told (locate_of s o key limit)
-lookup_told s key limit (header_read.Refused n) = refusal n
+unfoldable pub lookup_told : List ℕ → List ℕ → ℕ → Result Opened Refusal → Told
+lookup_told s key limit (Ok o) = located_told (locate_of s o key limit)
+lookup_told s key limit (Err n) = refusal (refusal_number n)
 
-unfoldable pub packed_lookup_told : List ℕ → ℕ → Answer PackedForm → Told
-packed_lookup_told key limit (given p) = located_told (locate_of p.bytes p.opened key limit)
-packed_lookup_told key limit (refused n) = refusal n
+unfoldable pub packed_lookup_told : List ℕ → ℕ → Result PackedForm Refusal → Told
+packed_lookup_told key limit (Ok p) = located_told (locate_of p.bytes p.opened key limit)
+packed_lookup_told key limit (Err n) = refusal (refusal_number n)
 
-unfoldable pub packed_len_told : Answer PackedForm → Told
-packed_len_told (given p) = number (length p.bytes)
-packed_len_told (refused n) = refusal n
+unfoldable pub packed_len_told : Result PackedForm Refusal → Told
+packed_len_told (Ok p) = number (length p.bytes)
+packed_len_told (Err n) = refusal (refusal_number n)
 
-unfoldable pub pairs_told : Answer (List Pair) → Told
-pairs_told (given ps) = pairs (pair_numbers ps)
-pairs_told (refused n) = refusal n
+unfoldable pub pairs_told : Result (List Pair) Refusal → Told
+pairs_told (Ok ps) = pairs (pair_numbers ps)
+pairs_told (Err n) = refusal (refusal_number n)
 
 -- a span in an opened section, with four places for two pairs
-unfoldable pub span_told : List ℕ → ℕ → HeaderRead → Told
-span_told s limit (header_read.Accepted o) = pairs_told (span_of s o 0 2 limit 4)
-span_told s limit (header_read.Refused n) = refusal n
+unfoldable pub span_told : List ℕ → ℕ → Result Opened Refusal → Told
+span_told s limit (Ok o) = pairs_told (span_of s o 0 2 limit 4)
+span_told s limit (Err n) = refusal (refusal_number n)
 
 -- the section with scan prefix 0 and another first pilot, without its last four bytes, and with the CRC-32 that belongs there
 unfoldable pub with_pilot : ℕ → List ℕ
@@ -129,10 +128,10 @@ unfoldable pub sealed_with : List ℕ → List ℕ
 sealed_with s = s ++ le_bytes 4 (crc_of s)
 
 -- both openings of the section with a scan prefix beside the worked data, with the key scratch of program `keys`
-unfoldable pub opening_with : ℕ → HeaderRead
+unfoldable pub opening_with : ℕ → Result Opened Refusal
 opening_with prefix = open_of (section_with prefix) worked_data worked_list 32768
 
-unfoldable pub packing_with : ℕ → Answer PackedForm
+unfoldable pub packing_with : ℕ → Result PackedForm Refusal
 packing_with prefix = open_packed_of (section_with prefix) worked_data worked_list 32768 200
 
 unfoldable pub answer_to : Question → Told

@@ -17,13 +17,22 @@ use Rattle.encoding.specs.Encoding.{Widths, scan_magic}
 use Rattle.header.specs.Header.{stands_at_of, begins, scan_settings}
 use Rattle.header.specs.Internal.{usual_widths}
 use Rattle.header.specs.Facts.{Numbers, Scan, from_plain}
-use Rattle.header.proofs.Questions.{begins_yes, widths_yes, usual_allowed, one_or_two, within_yes}
+use Rattle.header.proofs.Questions.{begins_yes, widths_yes, usual_allowed, within_yes}
 use Rattle.opened.proofs.Records.{facts_record}
 use Rattle.numbers.specs.Numbers.{opened_of, is_record_numbers}
 use Rattle.held.specs.Held.{says}
 use Rattle.held.proofs.Exactly.{few_keys}
 use Rattle.spans.specs.Span.{scannable}
 use Rattle.usual.specs.Internal.{usual_numbers, fields_match, start_matches, scan_matches, ScanRecord}
+
+-- a number from 1 below 3 is 1 or 2
+one_or_two : (xs : List ℕ) (w : ℕ) → 1 ≤ w → w < 3 → true ≡ one_of (1 ∷ 2 ∷ xs) w
+unfolding one_of either
+one_or_two xs w l h = go (eqb w 1) refl
+  where
+    go : (t : Bool) → eqb w 1 ≡ t → true ≡ either t (either (eqb w 2) (one_of xs w))
+    go true e = refl
+    go false e = let n = eqb-false w 1 e in rw (eq-eqb w 2 (omega arith))
 
 -- a number from 1 to 4 that is not 3 is a width of sequences
 seq_width : (w : ℕ) → 0 < w → w ≤ 4 → (w ≡ 3 → ⊥) → one_of (1 ∷ 2 ∷ 4 ∷ 8 ∷ []) w ≡ true

@@ -1,11 +1,13 @@
 // Questions 24 and 27 of the records that most sections with a scan part give, in few instructions: widths as `usual_widths` has them, and
-// sequences of at most four bytes. A span asks them so first, and after a no one by one.
+// sequences of at most four bytes. A span asks them so first, and after a no one by one. It stays beside `held` for speed alone:
+// some 105 instructions of the 167 of a span of one key (docs/PERFORMANCE.md, "Spans").
 #![tactic(auto)]
 
 ghost use Rattle.std.specs.Prelude.{◌≡◌, true, ◌+◌, ◌*◌, ◌^◌, ◌≤◌, ◌<◌, length};
 ghost use Rattle.usual.specs.Internal.{usual_numbers, fields_match, start_matches, scan_matches, header_inside_of, ScanRecord};
 
 use encoding::Encoding;
+use num::LittleEndian;
 
 // The numbers alone: how many keys, the widths, the checksum flag, and not packed.
 fn usual_numbers(numbers: &[u64; 16]) -> bool
@@ -27,11 +29,11 @@ fn fields_match(section: &[u8], numbers: &[u64; 16], buckets: u64) -> bool
     requires buckets_bound { buckets < 2 ^ 31 }
     ensures { result ≡ fields_match section.now numbers.now buckets }
 {
-    ((num::u64_at(section, 32) == 0x1_0000_0004)
+    ((u64::read(section, 32) == 0x1_0000_0004)
         & (held::says(section, 40, 1)
             & (held::says(section, 48, 2) & held::says(section, 44, numbers[8]))))
-        & ((num::u64_at(section, 8) == numbers[0])
-            & ((num::u64_at(section, 56) == numbers[1])
+        & ((u64::read(section, 8) == numbers[0])
+            & ((u64::read(section, 56) == numbers[1])
                 & (held::says(section, 16, numbers[2])
                     & (held::says(section, 20, buckets) & (numbers[3] == buckets)))))
 }
@@ -44,7 +46,7 @@ fn start_matches(section: &[u8], numbers: &[u64; 16], arena: u64, scan: u64) -> 
 {
     ((numbers[13] == 0) & ((numbers[14] == 0) & (numbers[15] == 0)))
         & ((numbers[4] == arena)
-            & ((num::u64_at(section, 24) == arena)
+            & ((u64::read(section, 24) == arena)
                 & (held::says(section, 52, numbers[10] + 2)
                     & ((numbers[11] == scan) & (arena < scan)))))
 }
@@ -54,7 +56,7 @@ fn scan_matches(section: &[u8], n: u64, scan: usize) -> bool
     requires { scan + (37 + 4 * n) ≡ length section.now }
     ensures { result ≡ scan_matches section.now n scan }
 {
-    (num::u64_at(section, section.len() - 13) == 24 + 4 * n)
+    (u64::read(section, section.len() - 13) == 24 + 4 * n)
         & (header::stands_at(section, scan, &Encoding::SCAN_MAGIC)
             & header::scan_settings(section, scan, n as usize))
 }
@@ -70,7 +72,7 @@ fn header_inside(section: &[u8], numbers: &[u64; 16], first: u64, scan: u64) -> 
     if all < arena {
         return false;
     }
-    let address = num::u32_at(section, (scan + 24 + 4 * first) as usize) as u64;
+    let address = u32::read(section, (scan + 24 + 4 * first) as usize) as u64;
     arena + address + 14 <= all
 }
 

@@ -3,12 +3,13 @@
 use mathlib.Core.Path.{◌≡◌, refl, ap, ap₂, ◌∙◌}
 use mathlib.Core.Bool.{true}
 use mathlib.Core.List.{List}
-use Prim.Native.Nat.{ℕ, ◌+◌, ◌*◌, ◌-◌, ◌%◌, ◌^◌, ◌<◌, ◌≤◌}
+use Prim.Native.Nat.{ℕ, suc, ◌+◌, ◌*◌, ◌%◌, ◌^◌, ◌<◌, ◌≤◌}
 use native.Mathlib.Nat.{mul-le-mul, le_of_lt}
 use native.Mathlib.Omega.{arith}
 use lib.ListN.{length}
 use lib.Seq.{sets}
-use Rattle.num.specs.Answer.{Answer}
+use Rattle.std.specs.Prelude.{Result}
+use Rattle.refusal.specs.declared.Refusal.{Refusal}
 use Rattle.num.specs.Number.{Bytes, le_at}
 use Rattle.encoding.specs.Encoding.{Widths, key_header_len_of, version_len_of}
 use Rattle.header.specs.declared.Opened.{Opened}
@@ -59,7 +60,7 @@ module _ (s : List ℕ) (o : Opened) (limit at : ℕ) {header size suffix versio
       (omega arith, l, mul-le-mul (le_of_lt l) m)
 
   -- the value of the key
-  abbrev found : Answer (List Pair)
+  abbrev found : Result (List Pair) Refusal
   found = first_within versions s o (o.arena + at + (header + suffix)) limit
 
   -- where its header is inside, that is the answer of the key
@@ -69,26 +70,26 @@ module _ (s : List ℕ) (o : Opened) (limit at : ℕ) {header size suffix versio
       ∙ keys.key_versions s o limit at refl eh l
 
   -- the values of the keys behind it
-  abbrev rest : ℕ → Answer (List Pair)
-  rest n = values_from (n - 1) s o limit ((at + (header + suffix) + versions * size) % 2 ^ 32)
+  abbrev rest : ℕ → Result (List Pair) Refusal
+  rest k = values_from k s o limit ((at + (header + suffix) + versions * size) % 2 ^ 32)
 
-  rest_is : (n : ℕ) → rest n ≡ keys.others s o limit at n
-  rest_is n = ap (λ (a : ℕ). values_from (n - 1) s o limit a) next_is
+  rest_is : (k : ℕ) → rest k ≡ keys.others s o limit at k
+  rest_is k = ap (λ (a : ℕ). values_from k s o limit a) next_is
 
-  module _ (n : ℕ) (h : 0 < n) (e : is_given (values_from n s o limit at) ≡ true) where
+  module _ (n k : ℕ) (h : n ≡ suc k) (e : is_given (values_from n s o limit at) ≡ true) where
     found-given : found ≡ keys.key s o limit at
-    found-given = let l = keys.key_inside s o limit at (keys.key_given s o limit at n h e).0 in found_is (omega arith)
+    found-given = let l = keys.key_inside s o limit at (keys.key_given s o limit at n k h e).0 in found_is (omega arith)
 
     -- where nothing is refused, neither this key nor the others are
-    pub key_given : (is_given found ≡ true) × (is_given (rest n) ≡ true)
-    key_given = let g = keys.key_given s o limit at n h e in (ap is_given found-given ∙ g.0, ap is_given (rest_is n) ∙ g.1)
+    pub key_given : (is_given found ≡ true) × (is_given (rest k) ≡ true)
+    key_given = let g = keys.key_given s o limit at n k h e in (ap is_given found-given ∙ g.0, ap is_given (rest_is k) ∙ g.1)
 
     -- once its pair is stored, the pairs of the others are to be stored behind it
     pub key_stored : (l : List ℕ) (to : ℕ) {m : List ℕ} {next : ℕ} → next ≡ to + 2 * length (pairs_of found) → m ≡ sets l to (pair_numbers (pairs_of found))
-        → (next ≤ to + 2) × (length m ≡ length l) × (next + 2 * length (pairs_of (rest n)) ≡ to + 2 * length (pairs_of (values_from n s o limit at)))
-        × (sets m next (pair_numbers (pairs_of (rest n))) ≡ sets l to (pair_numbers (pairs_of (values_from n s o limit at))))
+        → (next ≤ to + 2) × (length m ≡ length l) × (next + 2 * length (pairs_of (rest k)) ≡ to + 2 * length (pairs_of (values_from n s o limit at)))
+        × (sets m next (pair_numbers (pairs_of (rest k))) ≡ sets l to (pair_numbers (pairs_of (values_from n s o limit at))))
     key_stored l to {m} {next} en em =
-        let k = keys.key_stored s o limit at n h e l to
-        (en ∙ ap (λ (a : Answer (List Pair)). to + 2 * length (pairs_of a)) found-given)
-        (em ∙ ap (λ (a : Answer (List Pair)). sets l to (pair_numbers (pairs_of a))) found-given) in
-        (k.0, k.1, ap (λ (a : Answer (List Pair)). next + 2 * length (pairs_of a)) (rest_is n) ∙ k.2, ap (λ (a : Answer (List Pair)). sets m next (pair_numbers (pairs_of a))) (rest_is n) ∙ k.3)
+        let put = keys.key_stored s o limit at n k h e l to
+        (en ∙ ap (λ (a : Result (List Pair) Refusal). to + 2 * length (pairs_of a)) found-given)
+        (em ∙ ap (λ (a : Result (List Pair) Refusal). sets l to (pair_numbers (pairs_of a))) found-given) in
+        (put.0, put.1, ap (λ (a : Result (List Pair) Refusal). next + 2 * length (pairs_of a)) (rest_is k) ∙ put.2, ap (λ (a : Result (List Pair) Refusal). sets m next (pair_numbers (pairs_of a))) (rest_is k) ∙ put.3)

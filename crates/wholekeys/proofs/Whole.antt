@@ -3,7 +3,7 @@
 use mathlib.Core.Path.{◌≡◌, refl, sym, ap, ◌∙◌, subst, subst⁻¹}
 use mathlib.Core.Bool.{Bool, true, false}
 use mathlib.Core.List.{List}
-use Prim.Native.Nat.{ℕ, suc, ◌+◌, ◌*◌, ◌-◌, ◌^◌, ◌<◌, ◌≤◌}
+use Prim.Native.Nat.{ℕ, suc, ◌+◌, ◌*◌, ◌^◌, ◌<◌, ◌≤◌}
 use native.Mathlib.Omega.{arith}
 use lib.Dec.{eqb}
 use lib.ListN.{length}
@@ -91,15 +91,15 @@ all_so_far s o first count {done = done} w e l room sums =
 
 -- ---- one key more, by the code's numbers
 
-module _ (s : List ℕ) (o : Opened) (first count : ℕ) (four : o.encoding.address ≡ 4) {table left at : ℕ} (some : 0 < left) (few : left ≤ count)
-    (place : table ≡ table_place o (first + (count - left))) (ea : at ≡ le_at s table 4) where
-  pub address_is : at ≡ scan_address s o (first + (count - left))
-  address_is = ea ∙ table_address s o four (first + (count - left)) place
+module _ (s : List ℕ) (o : Opened) (first i : ℕ) (four : o.encoding.address ≡ 4) {table at : ℕ} (place : table ≡ table_place o (first + i))
+    (ea : at ≡ le_at s table 4) where
+  pub address_is : at ≡ scan_address s o (first + i)
+  address_is = ea ∙ table_address s o four (first + i) place
 
   module _ (limit : ℕ) {header size suffix versions : ℕ} (eh : header ≡ key_header_len_of o.encoding) (es : size ≡ version_len_of o.encoding)
       (ex : suffix ≡ le_at s (o.arena + at + (o.encoding.address + o.encoding.key)) o.encoding.key)
       (ev : versions ≡ le_at s (o.arena + at + (o.encoding.address + o.encoding.key) + o.encoding.key) o.encoding.count) where
-    pub key_end_lem : at + (header + suffix) + versions * size ≡ key_end s o (first + (count - left))
+    pub key_end_lem : at + (header + suffix) + versions * size ≡ key_end s o (first + i)
     unfolding key_end
     key_end_lem = end_is s o limit at eh es ex ev ∙ ap (λ (a : ℕ). record_end o a (key_header_at s o.encoding (o.arena + a))) address_is
 
@@ -113,13 +113,13 @@ module _ (s : List ℕ) (o : Opened) (first count : ℕ) (four : o.encoding.addr
         omega (arith, n.0, n.2)
 
     -- it starts where the key before it ends
-    pub step_so_far : {most next : ℕ} → at ≤ most → at ≡ next → SoFar s o first most (count - left) next
-        → SoFar s o first most (count - (left - 1)) (at + (header + suffix) + versions * size)
+    pub step_so_far : {most next : ℕ} → at ≤ most → at ≡ next → SoFar s o first most i next
+        → SoFar s o first most (i + 1) (at + (header + suffix) + versions * size)
     step_so_far {most} {next} l b w =
         let a = address_is in
-        let d : suc (count - left) ≡ count - (left - 1) = omega arith in
+        let d : suc i ≡ i + 1 = omega arith in
         subst (λ (k : ℕ). SoFar s o first most k (at + (header + suffix) + versions * size)) d
-        (subst⁻¹ (SoFar s o first most (suc (count - left))) key_end_lem (more_so_far s o first most (count - left) next w (omega arith) (sym b ∙ a)))
+        (subst⁻¹ (SoFar s o first most (suc i)) key_end_lem (more_so_far s o first most i next w (omega arith) (sym b ∙ a)))
 
 -- ---- a record of the usual widths
 

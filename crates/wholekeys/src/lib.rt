@@ -8,6 +8,7 @@ ghost use Rattle.wholekeys.specs.Internal.{WholeKeys};
 
 use encoding::Encoding;
 use header::Opened;
+use num::LittleEndian;
 
 // The same record, with the widths that most sections have, but for that of sequences, as constants: the compiler then makes loops for them alone.
 pub fn with_usual_widths(o: Opened) -> Opened
@@ -70,11 +71,10 @@ fn records_whole(section: &[u8], o: Opened, first: u64, count: u64) -> bool
     }
     let most = section.len() - read;
     let mut table = o.scan + Encoding::SCAN_HEADER + 4 * first as usize;
-    let mut next = num::u32_at(section, table) as usize;
+    let mut next = u32::read(section, table) as usize;
     let mut sound = true;
-    let mut left = count;
-    while 0 < left {
-        let at = num::u32_at(section, table) as usize;
+    for _ in 0..count {
+        let at = u32::read(section, table) as usize;
         if most < at {
             return false;
         }
@@ -85,7 +85,6 @@ fn records_whole(section: &[u8], o: Opened, first: u64, count: u64) -> bool
         sound = sound & (at == next);
         next = record_end(at, header + suffix_len, versions, size);
         table += 4;
-        left -= 1;
     }
     sound & (next <= most)
 }

@@ -3,7 +3,7 @@
 use mathlib.Core.Path.{◌≡◌, refl, sym, ap, ◌∙◌, subst⁻¹}
 use mathlib.Core.Bool.{true}
 use mathlib.Core.List.{List}
-use Prim.Native.Nat.{ℕ, zero, suc, ◌+◌, ◌*◌, ◌-◌, ◌%◌, ◌^◌, ◌<◌, ◌≤◌}
+use Prim.Native.Nat.{ℕ, zero, suc, ◌+◌, ◌*◌, ◌%◌, ◌^◌, ◌<◌, ◌≤◌}
 use native.Mathlib.Nat.{mod-eq_of_lt}
 use native.Mathlib.Omega.{arith}
 use lib.ListN.{length}
@@ -76,14 +76,14 @@ module _ (s : List ℕ) (o : Opened) (first count : ℕ) (w : WholeKeys s o firs
 
 -- ---- one key more, by the code's numbers
 
-module _ (s : List ℕ) (o : Opened) (first count : ℕ) (four : o.encoding.address ≡ 4) {table left at : ℕ} (some : 0 < left) (few : left ≤ count)
-    (place : table ≡ table_place o (first + (count - left))) (ea : at ≡ le_at s table 4) where
+module _ (s : List ℕ) (o : Opened) (first count i : ℕ) (four : o.encoding.address ≡ 4) {table at : ℕ} (some : i < count)
+    (place : table ≡ table_place o (first + i)) (ea : at ≡ le_at s table 4) where
   -- its header is read by words
   pub header_room : WholeKeys s o first count → o.arena + at + (o.encoding.address + o.encoding.key) + o.encoding.key + 8 ≤ length s
   unfolding key_end record_end versions_start key_header_len_of
   header_room w =
-      let e = address_is s o first count four some few place ea in
-      let l = w.inside (count - left) (omega arith) in
+      let e = address_is s o first i four place ea in
+      let l = w.inside i some in
       omega arith
 
   module _ (limit : ℕ) {header size suffix versions : ℕ} (eh : header ≡ key_header_len_of o.encoding) (es : size ≡ version_len_of o.encoding)
@@ -92,15 +92,15 @@ module _ (s : List ℕ) (o : Opened) (first count : ℕ) (four : o.encoding.addr
     -- its versions have a word behind them
     pub versions_room : WholeKeys s o first count → o.arena + at + (header + suffix) + versions * size + 8 ≤ length s
     versions_room w =
-        let e = key_end_lem s o first count four some few place ea limit eh es ex ev in
-        let l = w.inside (count - left) (omega arith) in
+        let e = key_end_lem s o first i four place ea limit eh es ex ev in
+        let l = w.inside i some in
         omega arith
 
     -- the others are those from the next scan address on
-    pub step_told : WholeKeys s o first count → Bytes s
-        → values_from (left - 1) s o limit ((at + (header + suffix) + versions * size) % 2 ^ 32) ≡ values_from (left - 1) s o limit (le_at s (table + 4) 4)
-    step_told w b =
-        ap (values_from (left - 1) s o limit)
-        (next_is s o limit at eh es ex ev ∙ ap (λ (a : ℕ). next_address_of o a (key_header_at s o.encoding (o.arena + a))) (address_is s o first count four some few place ea))
-        ∙ rest_told s o first count w b four (left - 1) (count - left) limit (omega arith)
-        ∙ ap (values_from (left - 1) s o limit) (sym (table_address s o four (first + suc (count - left)) (omega arith)))
+    pub step_told : WholeKeys s o first count → Bytes s → (k : ℕ) → i + suc k ≡ count
+        → values_from k s o limit ((at + (header + suffix) + versions * size) % 2 ^ 32) ≡ values_from k s o limit (le_at s (table + 4) 4)
+    step_told w b k h =
+        ap (values_from k s o limit)
+        (next_is s o limit at eh es ex ev ∙ ap (λ (a : ℕ). next_address_of o a (key_header_at s o.encoding (o.arena + a))) (address_is s o first i four place ea))
+        ∙ rest_told s o first count w b four k i limit h
+        ∙ ap (values_from k s o limit) (sym (table_address s o four (first + suc i) (omega arith)))

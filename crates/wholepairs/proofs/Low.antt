@@ -7,7 +7,9 @@ use Prim.Native.Nat.{ℕ, zero, suc, ◌+◌, ◌^◌, ◌<◌}
 use native.Mathlib.Omega.{arith}
 use lib.Dec.{leb, ltb}
 use borrow.Author.Tests.{lt-leb}
-use Rattle.num.specs.Answer.{Answer, given, refused}
+use Rattle.std.specs.Prelude.{Result, Ok, Err}
+use Rattle.refusal.specs.declared.Refusal.{Refusal}
+use Rattle.refusal.specs.declared.Refusal.TheVariants as refusal
 use Rattle.num.specs.Choice.{when◌then◌else◌, both}
 use Rattle.num.proofs.Choice.{false_true, if_case}
 use Rattle.encoding.specs.Encoding.{version_len_of}
@@ -27,9 +29,9 @@ low_first (suc n) s o pos limit l =
   where
     go : (read within : Bool) → within ≡ false → pairs_of (first_within n s o (pos + version_len_of o.encoding) limit) ≡ []
         → pairs_of (elim read [
-          | false ↦ refused 25
+          | false ↦ Err refusal.Read
           | true ↦ elim within [
-            | true ↦ when readable s pos (value_end o.encoding) then given (value_at s o pos) else refused 25
+            | true ↦ when readable s pos (value_end o.encoding) then Ok (value_at s o pos) else Err refusal.Read
             | false ↦ first_within n s o (pos + version_len_of o.encoding) limit
           ]
         ]) ≡ []
@@ -39,13 +41,13 @@ low_first (suc n) s o pos limit l =
 
 low_key : (s : List ℕ) (o : Opened) (limit at : ℕ) (h : KeyHeader) → limit < o.min_seq → pairs_of (key_value s o limit at h) ≡ []
 unfolding key_value pairs_of
-low_key s o limit at h l = if_case (λ (a : Answer (List Pair)). pairs_of a ≡ []) _ _ _ (λ _. low_first _ s o _ limit l) (λ _. refl)
+low_key s o limit at h l = if_case (λ (a : Result (List Pair) Refusal). pairs_of a ≡ []) _ _ _ (λ _. low_first _ s o _ limit l) (λ _. refl)
 
-low_joined : (a b : Answer (List Pair)) → pairs_of a ≡ [] → pairs_of b ≡ [] → pairs_of (pairs_joined a b) ≡ []
+low_joined : (a b : Result (List Pair) Refusal) → pairs_of a ≡ [] → pairs_of b ≡ [] → pairs_of (pairs_joined a b) ≡ []
 unfolding pairs_joined pairs_of
-low_joined (given ps) (given qs) p q = ap₂ ◌++◌ p q
-low_joined (given ps) (refused n) p q = refl
-low_joined (refused n) b p q = refl
+low_joined (Ok ps) (Ok qs) p q = ap₂ ◌++◌ p q
+low_joined (Ok ps) (Err e) p q = refl
+low_joined (Err e) b p q = refl
 
 pub low_none : (n : ℕ) (s : List ℕ) (o : Opened) (limit at : ℕ) → limit < o.min_seq → pairs_of (values_from n s o limit at) ≡ []
 unfolding values_from pairs_of

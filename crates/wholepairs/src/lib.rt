@@ -11,28 +11,24 @@ ghost use Rattle.wholekeys.specs.Internal.{WholeKeys};
 
 use encoding::Encoding;
 use header::Opened;
+use num::LittleEndian;
+use spans::Reads;
 
-// Writes the value of the version at a place, unless it is a tombstone, and answers where the next pair goes.
-pub fn put_version(section: &[u8], o: Opened, pos: usize, pairs: &mut [u64], to: usize) -> usize
-    requires spannable { Spannable o }
-    requires encoding_in_bounds { pos + value_end o.encoding + 8 ≤ length section.now }
-    requires to_in_bounds { to + 2 ≤ length pairs.old }
-    ensures { (result ≡ to + 2 * length (value_at section.now o pos))
-        × (pairs.new ≡ sets pairs.old to (pair_numbers (value_at section.now o pos))) }
-{
-    let e = o.encoding;
-    let value = pos + e.seq;
-    let stored = words::masked(section, value, e.value, words::mask(e.value));
-    if e.tombstone() <= stored {
-        return to;
+// A number by the word of eight bytes at its place.
+pub struct Words;
+
+impl Reads for Words {
+    ghost BEHIND = { 8 };
+
+    fn number(section: &[u8], at: usize, width: usize) -> u64 {
+        words::masked(section, at, width, words::mask(width))
     }
-    pairs[to] = num::u32_at(section, value + e.value) as u64;
-    pairs[to + 1] = stored;
-    to + 2
 }
 
 // Writes the value of the first of some versions whose stored number is at most `within`, the limit less the least sequence, if there is one, and
 // answers where the next pair goes.
+// It stays beside `spans::place_within`, which asks of each version that it is inside and its sum: records that are whole need neither, and the loop
+// is only made twice while it is this short (docs/PERFORMANCE.md, "Spans").
 fn put_newest(
     section: &[u8],
     o: Opened,
@@ -53,13 +49,11 @@ fn put_newest(
     let mask = words::mask(e.seq);
     let size = e.version();
     let mut pos = from;
-    let mut left = versions;
-    while 0 < left {
+    for _ in 0..versions {
         if words::masked(section, pos, e.seq, mask) <= within {
-            return put_version(section, o, pos, pairs, to);
+            return spans::put_version::<Words>(section, o, pos, pairs, to);
         }
         pos += size;
-        left -= 1;
     }
     to
 }
@@ -88,15 +82,13 @@ fn put_records(
     let header = lengths + e.key + e.count;
     let mut table = o.scan + Encoding::SCAN_HEADER + 4 * first as usize;
     let mut to = 0;
-    let mut left = count;
-    while 0 < left {
-        let pos = o.arena + num::u32_at(section, table) as usize;
+    for _ in 0..count {
+        let pos = o.arena + u32::read(section, table) as usize;
         let suffix_len = words::masked(section, pos + lengths, e.key, key_mask) as usize;
         let versions = words::masked(section, pos + lengths + e.key, e.count, count_mask) as usize;
         let start = header + suffix_len;
         to = put_newest(section, o, versions, pos + start, within, pairs, to);
         table += 4;
-        left -= 1;
     }
     to
 }

@@ -18,5 +18,5 @@ pub returns : goal.returns
 unfolding header_says both
 returns c =
     let r = c.args.numbers.now in
-    ap₂ both (ap (λ (n : ℕ). eqb n (get_or r 0 0)) c.u64_at.ensures)
-    (ap₂ both (ap (λ (n : ℕ). eqb n (get_or r 1 0)) c.u64_at-2.ensures) (ap₂ both c.says.ensures c.says-2.ensures))
+    ap₂ both (ap (λ (n : ℕ). eqb n (get_or r 0 0)) c.read.ensures)
+    (ap₂ both (ap (λ (n : ℕ). eqb n (get_or r 1 0)) c.read-2.ensures) (ap₂ both c.says.ensures c.says-2.ensures))

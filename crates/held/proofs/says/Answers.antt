@@ -6,4 +6,4 @@ use Rattle.held.proofs.says.Goals as goal
 
 pub returns : goal.returns
 unfolding says
-returns c = ap (λ (n : ℕ). eqb n c.args.number) c.u32_at.ensures
+returns c = ap (λ (n : ℕ). eqb n c.args.number) c.read.ensures

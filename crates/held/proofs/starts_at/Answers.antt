@@ -12,4 +12,4 @@ unfolding starts_at both
 returns c =
     let a = c.args in
     let s = a.section.now in
-    ap (λ (n : ℕ). both (eqb (get_or a.numbers.now 4 0) a.own) (both (eqb n a.stored) (ltb a.own (length s - trailer_len)))) c.u64_at.ensures
+    ap (λ (n : ℕ). both (eqb (get_or a.numbers.now 4 0) a.own) (both (eqb n a.stored) (ltb a.own (length s - trailer_len)))) c.read.ensures

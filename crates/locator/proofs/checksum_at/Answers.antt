@@ -22,12 +22,12 @@ pub overflow_add-pos-3 : goal.overflow_add-pos-3
 unfolding version_len_of
 overflow_add-pos-3 c = let pre = c.requires in omega (arith, pre.encoding_in_bounds)
 
-pub u32_at-requires : goal.u32_at-requires
-u32_at-requires c =
+pub read-requires : goal.read-requires
+read-requires c =
     let pre = c.requires in
     let args = c.args in
     checksum_read args.section.now args.o args.pos (not-false _ c.if-not-e.false) pre.encoding_in_bounds
 
 pub returns : goal.returns
 unfolding stored_checksum
-returns c = c.u32_at.ensures ∙ sym (if_true _ _ _ (not-false _ c.if-not-e.false))
+returns c = c.read.ensures ∙ sym (if_true _ _ _ (not-false _ c.if-not-e.false))

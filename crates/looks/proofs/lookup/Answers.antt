@@ -1,44 +1,54 @@
-use mathlib.Core.Path.{sym, ◌∙◌}
-use Rattle.locator.specs.Locator.{located_number}
+use mathlib.Core.Path.{◌≡◌, sym, ap, ap₂, ◌∙◌}
+use mathlib.Core.List.{List}
+use Prim.Native.Nat.{ℕ}
+use Rattle.header.specs.declared.Opened.{Opened}
+use Rattle.locator.specs.Locator.{Located}
+use Rattle.lookup.specs.Lookup.{hash_read}
+use Rattle.std.specs.Prelude.{Ok}
+use Rattle.refusal.specs.Refusal.{answer_number}
 use Rattle.looks.specs.Looked.{answer_written}
 use Rattle.looks.proofs.Numbers.{held_record, held_looked_up, not_held}
 use Rattle.looks.proofs.lookup.Goals as goal
 
+-- what the section that is held locates, its bytes and its record lead to
+located : (key : List ℕ) (limit h : ℕ) {s t : List ℕ} {o p : Opened} {r : Located} → (t ≡ s) × (p ≡ o) → r ≡ hash_read t p key limit h → r ≡ hash_read s o key limit h
+located key limit h e l = l ∙ ap₂ (λ (s : List ℕ) (o : Opened). hash_read s o key limit h) e.0 e.1
+
 pub returns-then-not-holds : goal.returns-then-not-holds
-unfolding located_number answer_written
+unfolding answer_number answer_written
 returns-then-not-holds c =
     let s = c.args in
     let e = not_held s.section.now s.numbers.now s.key.now s.limit (sym c.holds.ensures ∙ c.if-not-holds.true) in
-    (rw e, rw e)
+    (c.number.ensures ∙ rw e, rw e)
 
-pub locate-found-requires : goal.locate-found-requires
-locate-found-requires c =
+pub new-requires : goal.new-requires
+new-requires c =
     let s = c.args in
     held_record s.section.now s.numbers.now s.key.now s.limit _ (sym c.holds.ensures ∙ c.if-not-holds.false) c.read_record-o.ensures
 
-pub returns-in-Found : goal.returns-in-Found
-unfolding located_number answer_written
-returns-in-Found c =
+pub returns-in-Ok-Some : goal.returns-in-Ok-Some
+unfolding answer_number answer_written
+returns-in-Ok-Some c =
     let s = c.args in
     let is = sym c.holds.ensures ∙ c.if-not-holds.false in
-    let l = held_looked_up s.section.now s.numbers.now s.key.now s.limit c.read_record-o.result c.locate-found.result c.hash-h.result is c.read_record-o.ensures c.hash-h.ensures c.locate-found.ensures in
-    let e = l ∙ c.in-Found.is in
+    let l = held_looked_up s.section.now s.numbers.now s.key.now s.limit c.read_record-o.result c.locate.result c.hash-h.result is c.read_record-o.ensures c.hash-h.ensures (located s.key.now s.limit _ c.new.ensures c.locate.ensures) in
+    let e = l ∙ c.in-Ok-Some.is ∙ ap Ok c.in-Ok-Some.field-0-is in
     (rw e, c.write_answer.ensures ∙ rw e)
 
-pub returns-in-Missing : goal.returns-in-Missing
-unfolding located_number answer_written
-returns-in-Missing c =
+pub returns-in-Ok-None : goal.returns-in-Ok-None
+unfolding answer_number answer_written
+returns-in-Ok-None c =
     let s = c.args in
     let is = sym c.holds.ensures ∙ c.if-not-holds.false in
-    let l = held_looked_up s.section.now s.numbers.now s.key.now s.limit c.read_record-o.result c.locate-found.result c.hash-h.result is c.read_record-o.ensures c.hash-h.ensures c.locate-found.ensures in
-    let e = l ∙ c.in-Missing.is in
+    let l = held_looked_up s.section.now s.numbers.now s.key.now s.limit c.read_record-o.result c.locate.result c.hash-h.result is c.read_record-o.ensures c.hash-h.ensures (located s.key.now s.limit _ c.new.ensures c.locate.ensures) in
+    let e = l ∙ c.in-Ok-None.is ∙ ap Ok c.in-Ok-None.field-0-is in
     (rw e, c.write_missing.ensures ∙ rw e)
 
-pub returns-in-Refused : goal.returns-in-Refused
-unfolding located_number answer_written
-returns-in-Refused c =
+pub returns-in-Err : goal.returns-in-Err
+unfolding answer_number answer_written
+returns-in-Err c =
     let s = c.args in
     let is = sym c.holds.ensures ∙ c.if-not-holds.false in
-    let l = held_looked_up s.section.now s.numbers.now s.key.now s.limit c.read_record-o.result c.locate-found.result c.hash-h.result is c.read_record-o.ensures c.hash-h.ensures c.locate-found.ensures in
-    let e = l ∙ c.in-Refused.is in
-    (rw e, rw e)
+    let l = held_looked_up s.section.now s.numbers.now s.key.now s.limit c.read_record-o.result c.locate.result c.hash-h.result is c.read_record-o.ensures c.hash-h.ensures (located s.key.now s.limit _ c.new.ensures c.locate.ensures) in
+    let e = l ∙ c.in-Err.is in
+    (c.number-in-Err.ensures ∙ rw e, rw e)

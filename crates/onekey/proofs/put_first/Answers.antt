@@ -1,6 +1,7 @@
 use mathlib.Core.Path.{refl, sym, ap, ◌∙◌}
 use Prim.Native.Nat.{ℕ, ◌+◌, ◌-◌}
 use native.Mathlib.Omega.{arith}
+use Rattle.std.specs.Prelude.{Some}
 use Rattle.encoding.proofs.Widths.{widths_le}
 use Rattle.arena.proofs.Reading.{widths_read, version_le}
 use Rattle.locator.proofs.Versions.{stored_sum}
@@ -78,23 +79,23 @@ overflow_add-from-5 c =
     let pre = c.requires in
     omega (arith, version_le _ pre.spannable.widths, version.ensures)
 
-pub first_within-found-requires : goal.first_within-found-requires
-first_within-found-requires c =
+pub first_within-requires : goal.first_within-requires
+first_within-requires c =
     let version = c.version in
     let pre = c.requires in
     record { spannable = pre.spannable; from_bound = omega (arith, version_le _ pre.spannable.widths, version.ensures) }
 
-pub put_version-requires-in-At : goal.put_version-requires-in-At
-put_version-requires-in-At c =
-    let first-within = c.first_within-found in
+pub put_version-requires-in-Some : goal.put_version-requires-in-Some
+put_version-requires-in-Some c =
+    let first-within = c.first_within in
     let pre = c.requires in
-    record { spannable = pre.spannable; encoding_in_bounds = (at_told _ _ _ first-within.ensures c.in-At.is).1; to_in_bounds = search rules }
+    record { spannable = pre.spannable; encoding_in_bounds = (at_told _ _ _ first-within.ensures (c.in_ok-at.was ∙ ap Some c.in-Some.is)).1; to_in_bounds = search rules }
 
-pub returns-in-At : goal.returns-in-At
+pub returns-in-Some : goal.returns-in-Some
 unfolding KeyPut
-returns-in-At c =
-    let put-version2 = c.put_version-in-At in
-    let first-within = c.first_within-found in
+returns-in-Some c =
+    let put-version2 = c.put_version-in-Some in
+    let first-within = c.first_within in
     let version = c.version in
     let if4 = c.if-o-stored-2 in
     let if3 = c.if-o-stored in
@@ -103,15 +104,15 @@ returns-in-At c =
     let if1 = c.if-versions-eq0 in
     let args = c.args in
     let e = stored_sum args.section.now args.o args.from seq-at.ensures in
-    let above = value_above args.section.now args.o args.from args.limit args.versions (omega (arith, if1.false)) (omega (arith, if2.false)) (omega (arith, if3.false)) (omega (arith, if4.false))
+    let above = value_above args.section.now args.o args.from args.limit args.versions (args.versions - 1) (omega (arith, if1.false)) (omega (arith, if2.false)) (omega (arith, if3.false)) (omega (arith, if4.false))
     ∙ ap (λ (n : ℕ). first_within (args.versions - 1) args.section.now args.o (args.from + n) args.limit) (sym version.ensures) in
-    pairs_told_lem _ args.pairs.now (above ∙ (at_told _ _ _ first-within.ensures c.in-At.is).0)
+    pairs_told_lem _ args.pairs.now (above ∙ (at_told _ _ _ first-within.ensures (c.in_ok-at.was ∙ ap Some c.in-Some.is)).0)
     (omega (arith, put-version2.ensures.0)) put-version2.ensures.1
 
-pub returns-in-Absent : goal.returns-in-Absent
+pub returns-in-None : goal.returns-in-None
 unfolding KeyPut pair_numbers
-returns-in-Absent c =
-    let first-within = c.first_within-found in
+returns-in-None c =
+    let first-within = c.first_within in
     let version = c.version in
     let if4 = c.if-o-stored-2 in
     let if3 = c.if-o-stored in
@@ -120,10 +121,10 @@ returns-in-Absent c =
     let if1 = c.if-versions-eq0 in
     let args = c.args in
     let e = stored_sum args.section.now args.o args.from seq-at.ensures in
-    let above = value_above args.section.now args.o args.from args.limit args.versions (omega (arith, if1.false)) (omega (arith, if2.false)) (omega (arith, if3.false)) (omega (arith, if4.false))
+    let above = value_above args.section.now args.o args.from args.limit args.versions (args.versions - 1) (omega (arith, if1.false)) (omega (arith, if2.false)) (omega (arith, if3.false)) (omega (arith, if4.false))
     ∙ ap (λ (n : ℕ). first_within (args.versions - 1) args.section.now args.o (args.from + n) args.limit) (sym version.ensures) in
-    pairs_told_lem _ args.pairs.now (above ∙ absent_told _ _ _ first-within.ensures c.in-Absent.is) refl refl
+    pairs_told_lem _ args.pairs.now (above ∙ absent_told _ _ _ first-within.ensures (c.in_ok-at.was ∙ ap Some c.in-None.is)) refl refl
 
-pub returns-in-Left : goal.returns-in-Left
+pub returns-in_err-at : goal.returns-in_err-at
 unfolding KeyPut
-returns-in-Left c = refl
+returns-in_err-at c = rw c.from_residual.ensures refl

@@ -4,7 +4,6 @@ use Rattle.onekey.proofs.seq_at.Goals as goal
 
 pub returns-then-width-eq2 : goal.returns-then-width-eq2
 returns-then-width-eq2 c =
-    let u16-at = c.u16_at in
     let if1 = c.if-width-eq2 in
     let args = c.args in
-    u16-at.ensures.0 ∙ ap (le_at args.section.now args.at) (sym if1.true)
+    c.read.ensures ∙ ap (le_at args.section.now args.at) (sym if1.true)

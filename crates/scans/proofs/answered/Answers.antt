@@ -1,11 +1,12 @@
-use Rattle.spans.specs.Span.{spanned_number}
+use mathlib.Core.Path.{◌∙◌}
+use Rattle.refusal.specs.Refusal.{answer_number}
 use Rattle.scans.specs.Internal.{found_read}
 use Rattle.scans.proofs.answered.Goals as goal
 
-pub returns-in-Pairs : goal.returns-in-Pairs
-unfolding spanned_number found_read
-returns-in-Pairs c = let e = c.in-Pairs.is in (rw e, rw e)
+pub returns-in-Ok : goal.returns-in-Ok
+unfolding answer_number found_read
+returns-in-Ok c = let e = c.in-Ok.is in (rw e, rw e)
 
-pub returns-in-Refused : goal.returns-in-Refused
-unfolding spanned_number found_read
-returns-in-Refused c = let e = c.in-Refused.is in (rw e, rw e)
+pub returns-in-Err : goal.returns-in-Err
+unfolding answer_number found_read
+returns-in-Err c = let e = c.in-Err.is in (c.number.ensures ∙ rw e, rw e)

@@ -26,8 +26,8 @@ overflow_add-table-2 c =
     let a = c.args in
     omega (arith, one_table a.section.now a.numbers.now a.first a.limit (length a.pairs.now) c.requires c.read_record-o.ensures)
 
-pub u32_at-address-requires : goal.u32_at-address-requires
-u32_at-address-requires c =
+pub read-address-requires : goal.read-address-requires
+read-address-requires c =
     let a = c.args in
     omega (arith, one_table a.section.now a.numbers.now a.first a.limit (length a.pairs.now) c.requires c.read_record-o.ensures)
 
@@ -39,5 +39,5 @@ put_key-requires c =
 pub returns : goal.returns
 returns c =
     let a = c.args in
-    let e = one_is a.section.now a.numbers.now a.first a.limit (length a.pairs.now) c.requires c.read_record-o.ensures c.u32_at-address.ensures (search rules) in
+    let e = one_is a.section.now a.numbers.now a.first a.limit (length a.pairs.now) c.requires c.read_record-o.ensures c.read-address.ensures (search rules) in
     put_over e c.put_key.result a.pairs.now _ c.put_key.ensures

@@ -17,8 +17,8 @@ overflow_add-table-2 c =
     let e = ap (λ (o : Opened). o.scan) c.read_record-o.ensures in
     omega (arith, e, c.requires.count_in_bounds)
 
-pub u32_at-address-requires : goal.u32_at-address-requires
-u32_at-address-requires c =
+pub read-address-requires : goal.read-address-requires
+read-address-requires c =
     let e = ap (λ (o : Opened). o.scan) c.read_record-o.ensures in
     omega (arith, e, c.requires.count_in_bounds)
 
@@ -31,5 +31,5 @@ returns c =
     let a = c.args in
     let e = c.read_record-o.ensures in
     let four = ap (λ (o : Opened). o.encoding.address) e ∙ c.requires.spannable.four in
-    let read = read_from a.section.now _ a.first a.count a.limit four c.u32_at-address.ensures in
+    let read = read_from a.section.now _ a.first a.count a.limit four c.read-address.ensures in
     told_of (read ∙ ap (λ (o : Opened). values_from a.count a.section.now o a.limit (scan_address a.section.now o a.first)) e) a.pairs.now c.values_from.ensures

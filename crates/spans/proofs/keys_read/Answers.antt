@@ -1,44 +1,37 @@
-use mathlib.Core.Path.{refl, sym, ap, ◌∙◌}
-use Prim.Native.Nat.{ℕ, ◌-◌}
-use Rattle.num.specs.Choice.{both}
+use mathlib.Core.Path.{sym, ap, ◌∙◌}
+use Prim.Native.Nat.{ℕ, ◌+◌, ◌-◌}
+use native.Mathlib.Omega.{arith}
 use Rattle.spans.specs.Span.{values_from}
-use Rattle.spans.specs.Internal.{is_given}
-use Rattle.spans.proofs.Keys.{keys_none, key_inside, key_told, key_judged}
+use Rattle.spans.specs.Internal.{asked_of}
+use Rattle.spans.proofs.Keys.{keys_none, key_inside, key_left, key_refused, key_is_given}
 use borrow.Author.Rules.{rules}
 use Rattle.spans.proofs.keys_read.Goals as goal
 
-pub loop-left-init : goal.loop-left-init
-loop-left-init c = (c.requires.address_bound, refl)
+pub returns-in_err-key_read : goal.returns-in_err-key_read
+returns-in_err-key_read c =
+    let loop = c.loop in
+    let h = key_refused c.args.section.now c.args.o c.args.limit loop.at _ c.key_read.ensures.0 c.in_err-key_read.was (c.args.count - loop.counter)
+    (c.args.count - (loop.counter + 1)) (omega arith) in
+    rw (sym loop.invariant.1 ∙ h) (search rules)
 
-pub key_read-requires : goal.key_read-requires
-key_read-requires c = record { spannable = c.requires.spannable; address_bound = c.loop-left.invariant.0 }
+pub next_address-at-requires-clause-encoding_in_bounds : goal.next_address-at-requires-clause-encoding_in_bounds
+next_address-at-requires-clause-encoding_in_bounds c =
+    key_inside c.args.section.now c.args.o c.args.limit c.loop.at
+    (key_is_given c.args.section.now c.args.o c.args.limit c.loop.at _ c.key_read.ensures.0 c.in_ok-key_read.was)
 
-pub returns-then-is_failed : goal.returns-then-is_failed
-unfolding both
-returns-then-is_failed c =
-    let loop = c.loop-left in
-    let key = key_told c.args.section.now c.args.o c.args.limit loop.at _ c.key_read.ensures.0 (sym c.is_failed.ensures ∙ c.if-is_failed.true) in
-    let all = key_judged c.args.section.now c.args.o c.args.limit loop.at loop.left (search rules) in
-    sym (rw key at all) ∙ loop.invariant.1
-
-pub next_address-at-requires : goal.next_address-at-requires
-next_address-at-requires c =
-    let loop = c.loop-left in
-    let key = key_told c.args.section.now c.args.o c.args.limit loop.at _ c.key_read.ensures.0 (sym c.is_failed.ensures ∙ c.if-is_failed.false) in
-    record { spannable = c.requires.spannable; address_bound = loop.invariant.0; encoding_in_bounds = key_inside c.args.section.now c.args.o c.args.limit loop.at key }
-
-pub loop-left-preserved : goal.loop-left-preserved
-unfolding both
-loop-left-preserved c =
-    let loop = c.loop-left in
-    let key = key_told c.args.section.now c.args.o c.args.limit loop.at _ c.key_read.ensures.0 (sym c.is_failed.ensures ∙ c.if-is_failed.false) in
-    let all = key_judged c.args.section.now c.args.o c.args.limit loop.at loop.left (search rules) in
-    let next = c.next_address-at.ensures in
-    (next.1, ap (λ (a : ℕ). is_given (values_from (loop.left - 1) c.args.section.now c.args.o c.args.limit a)) next.0 ∙ sym (rw key at all) ∙ loop.invariant.1)
+pub loop-preserved : goal.loop-preserved
+loop-preserved c =
+    let loop = c.loop in
+    let next = c.next_address-at.ensures in (
+      next.1,
+      ap (λ (a : ℕ). asked_of (values_from (c.args.count - (loop.counter + 1)) c.args.section.now c.args.o c.args.limit a)) next.0
+          ∙ sym (key_left c.args.section.now c.args.o c.args.limit loop.at _ c.key_read.ensures.0 c.in_ok-key_read.was (c.args.count - loop.counter)
+          (c.args.count - (loop.counter + 1)) (omega arith))
+          ∙ loop.invariant.1,
+    )
 
 pub returns : goal.returns
-unfolding is_given
+unfolding asked_of
 returns c =
-    let args = c.args in
-    let loop = c.loop-left in
-    sym (ap is_given (keys_none args.section.now args.o args.limit loop.at loop.left (search rules))) ∙ loop.invariant.1
+    let loop = c.loop in
+    sym (ap asked_of (keys_none c.args.section.now c.args.o c.args.limit loop.at (c.args.count - loop.counter) (omega arith))) ∙ loop.invariant.1

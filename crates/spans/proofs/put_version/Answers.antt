@@ -8,42 +8,42 @@ use Rattle.spans.proofs.put_version.Goals as goal
 
 pub overflow_add-value : goal.overflow_add-value
 unfolding value_end
-overflow_add-value c =
+overflow_add-value g c =
     let pre = c.requires in
     omega (arith, pre.encoding_in_bounds)
 
-pub uint-stored-requires : goal.uint-stored-requires
+pub number-stored-requires : goal.number-stored-requires
 unfolding value_end
-uint-stored-requires c =
+number-stored-requires g c =
     let pre = c.requires in
     (omega (arith, pre.encoding_in_bounds), (widths_read _ pre.spannable.widths).4)
 
 pub returns-then-tombstone-stored : goal.returns-then-tombstone-stored
-returns-then-tombstone-stored c =
+returns-then-tombstone-stored g c =
     let args = c.args in
     let tombstone = c.tombstone in
-    let uint = c.uint-stored in
+    let uint = c.number-stored in
     none_put args.section.now args.o args.pos tombstone.ensures uint.ensures (search rules) args.pairs.now args.to
 
 pub overflow_add-value-2 : goal.overflow_add-value-2
 unfolding value_end
-overflow_add-value-2 c =
+overflow_add-value-2 g c =
     let pre = c.requires in
     omega (arith, pre.encoding_in_bounds)
 
-pub u32_at-requires : goal.u32_at-requires
+pub read-requires : goal.read-requires
 unfolding value_end
-u32_at-requires c =
+read-requires g c =
     let pre = c.requires in
     let four = pre.spannable.four in
     omega (arith, pre.encoding_in_bounds)
 
 pub bounds-pairs-to-2 : goal.bounds-pairs-to-2
-bounds-pairs-to-2 c =
-    omega (arith, c.requires.to_in_bounds, length-set c.args.pairs.now c.args.to c.u32_at.result)
+bounds-pairs-to-2 g c =
+    omega (arith, c.requires.to_in_bounds, length-set c.args.pairs.now c.args.to c.read.result)
 
 pub returns : goal.returns
-returns c =
+returns g c =
     let tombstone = c.tombstone in
-    let uint = c.uint-stored in
-    pair_put c.args.section.now c.args.o c.args.pos tombstone.ensures uint.ensures (search rules) c.u32_at.ensures c.requires.spannable.four c.args.pairs.now c.args.to
+    let uint = c.number-stored in
+    pair_put c.args.section.now c.args.o c.args.pos tombstone.ensures uint.ensures (search rules) c.read.ensures c.requires.spannable.four c.args.pairs.now c.args.to

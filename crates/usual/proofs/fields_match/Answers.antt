@@ -20,8 +20,8 @@ unfolding fields_match both
 returns c =
     let r = c.args.numbers.now in
     ap₂ both
-    (ap₂ both (ap (λ (n : ℕ). eqb n (2 ^ 32 + 4)) c.u64_at.ensures)
+    (ap₂ both (ap (λ (n : ℕ). eqb n (2 ^ 32 + 4)) c.read.ensures)
     (ap₂ both c.says.ensures (ap₂ both c.says-2.ensures c.says-3.ensures)))
-    (ap₂ both (ap (λ (n : ℕ). eqb n (get_or r 0 0)) c.u64_at-2.ensures)
-    (ap₂ both (ap (λ (n : ℕ). eqb n (get_or r 1 0)) c.u64_at-3.ensures)
+    (ap₂ both (ap (λ (n : ℕ). eqb n (get_or r 0 0)) c.read-2.ensures)
+    (ap₂ both (ap (λ (n : ℕ). eqb n (get_or r 1 0)) c.read-3.ensures)
     (ap₂ both c.says-4.ensures (ap (λ (b : Bool). both b (eqb (get_or r 3 0) c.args.buckets)) c.says-5.ensures))))

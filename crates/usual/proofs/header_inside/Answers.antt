@@ -18,4 +18,4 @@ pub returns : goal.returns
 unfolding header_inside_of
 returns c =
     let a = c.args in
-    ap (λ (n : ℕ). leb (get_or a.numbers.now 4 0 + n + 14) (length a.section.now)) c.u32_at-address.ensures
+    ap (λ (n : ℕ). leb (get_or a.numbers.now 4 0 + n + 14) (length a.section.now)) c.read-address.ensures

@@ -10,5 +10,5 @@ pub returns : goal.returns
 unfolding scan_matches scan_magic both
 returns c =
     let a = c.args in
-    ap₂ both (ap (λ (n : ℕ). eqb n (24 + 4 * a.n)) c.u64_at.ensures)
+    ap₂ both (ap (λ (n : ℕ). eqb n (24 + 4 * a.n)) c.read.ensures)
     (ap₂ both c.stands_at.ensures c.scan_settings.ensures)

@@ -22,5 +22,5 @@ returns c =
     let r = a.numbers.now in
     ap₂ (λ (n : ℕ) (b : Bool). both (both (eqb (get_or r 13 0) 0) (both (eqb (get_or r 14 0) 0) (eqb (get_or r 15 0) 0)))
     (both (eqb (get_or r 4 0) a.arena) (both (eqb n a.arena) (both b (both (eqb (get_or r 11 0) a.scan) (ltb a.arena a.scan))))))
-    c.u64_at.ensures
+    c.read.ensures
     c.says.ensures

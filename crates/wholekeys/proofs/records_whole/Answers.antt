@@ -1,4 +1,4 @@
-use mathlib.Core.Path.{subst⁻¹}
+use mathlib.Core.Path.{refl, subst⁻¹}
 use native.Mathlib.Omega.{arith}
 use lib.Dec.{eqb, leb}
 use borrow.Author.Tests.{eqb-true, leb-true}
@@ -80,19 +80,19 @@ overflow_add-table-2 c =
     let pre = c.requires in
     omega (arith, pre.count_in_bounds, good.0)
 
-pub u32_at-next-requires : goal.u32_at-next-requires
-u32_at-next-requires c =
+pub read-next-requires : goal.read-next-requires
+read-next-requires c =
     let pre = c.requires in
     omega (arith, pre.count_in_bounds)
 
-pub loop-left-init : goal.loop-left-init
-loop-left-init c =
+pub loop-init : goal.loop-init
+loop-init c =
     let args = c.args in
-    (omega arith, omega arith, λ _. none_so_far args.section.now args.o args.first _ _ _ (omega arith))
+    (omega arith, omega arith, λ _. none_so_far args.section.now args.o args.first _ _ _ refl)
 
-pub u32_at-at-requires : goal.u32_at-at-requires
-u32_at-at-requires c =
-    let loop = c.loop-left in
+pub read-at-requires : goal.read-at-requires
+read-at-requires c =
+    let loop = c.loop in
     let pre = c.requires in
     omega (arith, loop.invariant.0, loop.invariant.1, pre.count_in_bounds)
 
@@ -105,8 +105,8 @@ overflow_add-pos c =
     let pre = c.requires in
     omega (arith, pre.spannable.arena)
 
-pub overflow_add-pos-in-loop-left : goal.overflow_add-pos-in-loop-left
-overflow_add-pos-in-loop-left c =
+pub overflow_add-pos-in-loop : goal.overflow_add-pos-in-loop
+overflow_add-pos-in-loop c =
     let pre = c.requires in
     let w = widths_le _ pre.spannable.widths in
     omega (arith, pre.spannable.arena)
@@ -118,8 +118,8 @@ masked-suffix_len-requires c =
     let w = widths_le _ pre.spannable.widths in
     record { at_in_bounds = omega arith; width_value = (widths_read _ pre.spannable.widths).1; mask_value = mask.ensures }
 
-pub overflow_add-pos-in-loop-left-2 : goal.overflow_add-pos-in-loop-left-2
-overflow_add-pos-in-loop-left-2 c =
+pub overflow_add-pos-in-loop-2 : goal.overflow_add-pos-in-loop-2
+overflow_add-pos-in-loop-2 c =
     let pre = c.requires in
     let w = widths_le _ pre.spannable.widths in
     omega (arith, pre.spannable.arena)
@@ -135,14 +135,14 @@ pub overflow_add-header : goal.overflow_add-header
 overflow_add-header c =
     let masked2 = c.masked-versions in
     let masked = c.masked-suffix_len in
-    let u32-at2 = c.u32_at-at in
-    let loop = c.loop-left in
+    let u32-at2 = c.read-at in
+    let loop = c.loop in
     let version = c.version-size in
     let key-header = c.key_header-header in
     let shared-slice-known = c.shared_slice_known-1 in
     let args = c.args in
     let pre = c.requires in
-    let l = key_small args.section.now args.o args.first args.count pre.spannable.four (search rules) loop.invariant.0 loop.invariant.1
+    let l = key_small args.section.now args.o args.first loop.counter pre.spannable.four loop.invariant.1
     u32-at2.ensures 0 key-header.ensures version.ensures masked.ensures masked2.ensures (λ n. (shared-slice-known.given n).fits)
     pre.spannable.widths in
     omega arith
@@ -151,42 +151,41 @@ pub record_end-next-requires : goal.record_end-next-requires
 record_end-next-requires c =
     let masked2 = c.masked-versions in
     let masked = c.masked-suffix_len in
-    let u32-at2 = c.u32_at-at in
-    let loop = c.loop-left in
+    let u32-at2 = c.read-at in
+    let loop = c.loop in
     let version = c.version-size in
     let key-header = c.key_header-header in
     let shared-slice-known = c.shared_slice_known-1 in
     let args = c.args in
     let pre = c.requires in
-    key_small args.section.now args.o args.first args.count pre.spannable.four (search rules) loop.invariant.0 loop.invariant.1
+    key_small args.section.now args.o args.first loop.counter pre.spannable.four loop.invariant.1
     u32-at2.ensures 0 key-header.ensures version.ensures masked.ensures masked2.ensures (λ n. (shared-slice-known.given n).fits)
     pre.spannable.widths
 
-pub overflow_add-table-in-loop-left : goal.overflow_add-table-in-loop-left
-overflow_add-table-in-loop-left c =
-    let loop = c.loop-left in
+pub overflow_add-table-in-loop : goal.overflow_add-table-in-loop
+overflow_add-table-in-loop c =
+    let loop = c.loop in
     let good = c.well_formed in
     let pre = c.requires in
     omega (arith, loop.invariant.0, loop.invariant.1, pre.count_in_bounds, good.0)
 
-pub loop-left-preserved : goal.loop-left-preserved
+pub loop-preserved : goal.loop-preserved
 unfolding both
-loop-left-preserved c =
+loop-preserved c =
     let masked2 = c.masked-versions in
     let masked = c.masked-suffix_len in
-    let u32-at2 = c.u32_at-at in
-    let loop = c.loop-left in
+    let u32-at2 = c.read-at in
+    let loop = c.loop in
     let version = c.version-size in
     let key-header = c.key_header-header in
     let args = c.args in
     let pre = c.requires in
-    let few = loop.invariant.0 in
     let place = loop.invariant.1 in (
       omega arith,
       omega arith,
       λ e. let b = both_true loop.sound (eqb u32-at2.result loop.next) e in
           subst⁻¹ (SoFar args.section.now args.o args.first _ _) c.record_end-next.ensures
-          (step_so_far args.section.now args.o args.first args.count pre.spannable.four (search rules) few place u32-at2.ensures 0
+          (step_so_far args.section.now args.o args.first loop.counter pre.spannable.four place u32-at2.ensures 0
           key-header.ensures version.ensures masked.ensures masked2.ensures
           (search rules) (eqb-true _ _ b.1) (loop.invariant.2 b.0)),
     )
@@ -194,13 +193,12 @@ loop-left-preserved c =
 pub returns : goal.returns
 unfolding both
 returns c =
-    let loop = c.loop-left in
+    let loop = c.loop in
     let if1 = c.if-not-sums_fit in
     let sums-fit = c.sums_fit in
     let shared-slice-known = c.shared_slice_known-1 in
     let args = c.args in
     let pre = c.requires in
-    let few = loop.invariant.0 in
     let f = sums-fit.ensures if1.false in
     λ e. let b = both_true loop.sound (leb loop.next _) e in
     all_so_far args.section.now args.o args.first args.count (loop.invariant.2 b.0) (omega arith) (leb-true _ _ b.1) (omega arith)

@@ -1,4 +1,4 @@
-use mathlib.Core.Path.{refl, sym, ap, ap₂, ◌∙◌}
+use mathlib.Core.Path.{sym, ap, ap₂, ◌∙◌}
 use mathlib.Core.List.{List}
 use Prim.Native.Nat.{ℕ, ◌+◌, ◌*◌, ◌-◌}
 use native.Mathlib.Omega.{arith}
@@ -24,33 +24,28 @@ version-size-requires c =
     let pre = c.requires in
     pre.spannable.widths
 
-pub loop-left-init : goal.loop-left-init
-loop-left-init c =
-    let pre = c.requires in
-    (refl, pre.encoding_in_bounds, refl)
-
 pub masked-requires : goal.masked-requires
 masked-requires c =
-    let loop = c.loop-left in
+    let loop = c.loop in
     let mask = c.mask-mask in
     let args = c.args in
     let pre = c.requires in
-    let r = version_room args.section.now args.o loop.pos (args.o.min_seq + args.within) loop.left pre.by_index (search rules) loop.invariant.1 in
+    let r = version_room args.section.now args.o loop.pos (args.o.min_seq + args.within) (args.versions - loop.counter) (args.versions - (loop.counter + 1)) pre.by_index (omega arith) loop.invariant.1 in
     record { at_in_bounds = omega (arith, r.0); width_value = (widths_read _ pre.spannable.widths).3; mask_value = mask.ensures }
 
 pub put_version-requires : goal.put_version-requires
 unfolding version_len_of value_end
 put_version-requires c =
-    let loop = c.loop-left in
+    let loop = c.loop in
     let args = c.args in
     let pre = c.requires in
-    let r = version_room args.section.now args.o loop.pos (args.o.min_seq + args.within) loop.left pre.by_index (search rules) loop.invariant.1 in
+    let r = version_room args.section.now args.o loop.pos (args.o.min_seq + args.within) (args.versions - loop.counter) (args.versions - (loop.counter + 1)) pre.by_index (omega arith) loop.invariant.1 in
     record { spannable = pre.spannable; encoding_in_bounds = omega (arith, r.0); to_in_bounds = omega (arith, pre.to_in_bounds, ap length loop.invariant.0) }
 
 pub shape_of-pairs-then-masked-within : goal.shape_of-pairs-then-masked-within
 shape_of-pairs-then-masked-within c =
     let put-version = c.put_version in
-    let loop = c.loop-left in
+    let loop = c.loop in
     let args = c.args in
     ap length put-version.ensures.1 ∙ length-sets loop.pairs args.to
     (pair_numbers (value_at args.section.now args.o loop.pos)) ∙ ap length loop.invariant.0
@@ -60,12 +55,12 @@ unfolding pairs_of
 returns-then-masked-within c =
     let put-version = c.put_version in
     let masked = c.masked in
-    let loop = c.loop-left in
+    let loop = c.loop in
     let args = c.args in
     let pre = c.requires in
     let e = stored_sum args.section.now args.o loop.pos masked.ensures in
-    let v = sym (ap pairs_of (sym loop.invariant.2 ∙ room_within args.section.now args.o loop.pos (args.o.min_seq + args.within) loop.left pre.by_index
-    (search rules) loop.invariant.1 (omega arith))) in (
+    let v = sym (ap pairs_of (sym loop.invariant.2 ∙ room_within args.section.now args.o loop.pos (args.o.min_seq + args.within) (args.versions - loop.counter) (args.versions - (loop.counter + 1)) pre.by_index
+    (omega arith) loop.invariant.1 (omega arith))) in (
       put-version.ensures.0 ∙ ap (λ (ps : List Pair). args.to + 2 * length ps) v,
       put-version.ensures.1 ∙ ap₂ (λ (l : List ℕ)
           (ps : List Pair). sets l args.to (pair_numbers ps)) loop.invariant.0 v,
@@ -73,41 +68,41 @@ returns-then-masked-within c =
 
 pub overflow_add-pos : goal.overflow_add-pos
 overflow_add-pos c =
-    let loop = c.loop-left in
+    let loop = c.loop in
     let version = c.version-size in
     let args = c.args in
     let good = c.well_formed in
     let pre = c.requires in
-    let r = version_room args.section.now args.o loop.pos (args.o.min_seq + args.within) loop.left pre.by_index (search rules) loop.invariant.1 in
+    let r = version_room args.section.now args.o loop.pos (args.o.min_seq + args.within) (args.versions - loop.counter) (args.versions - (loop.counter + 1)) pre.by_index (omega arith) loop.invariant.1 in
     omega (arith, r.0, version.ensures, good.0)
 
-pub loop-left-preserved : goal.loop-left-preserved
-loop-left-preserved c =
+pub loop-preserved : goal.loop-preserved
+loop-preserved c =
     let masked = c.masked in
-    let loop = c.loop-left in
+    let loop = c.loop in
     let version = c.version-size in
     let args = c.args in
     let pre = c.requires in
     let e = stored_sum args.section.now args.o loop.pos masked.ensures in
-    let r = version_room args.section.now args.o loop.pos (args.o.min_seq + args.within) loop.left pre.by_index (search rules) loop.invariant.1 in
-    let a = room_above args.section.now args.o loop.pos (args.o.min_seq + args.within) loop.left pre.by_index (search rules) loop.invariant.1 (omega arith) in
+    let r = version_room args.section.now args.o loop.pos (args.o.min_seq + args.within) (args.versions - loop.counter) (args.versions - (loop.counter + 1)) pre.by_index (omega arith) loop.invariant.1 in
+    let a = room_above args.section.now args.o loop.pos (args.o.min_seq + args.within) (args.versions - loop.counter) (args.versions - (loop.counter + 1)) pre.by_index (omega arith) loop.invariant.1 (omega arith) in
     let s = version.ensures in (
       loop.invariant.0,
       rw s r.1,
-      ap (λ (n : ℕ). first_within (loop.left - 1) args.section.now args.o (loop.pos + n)
+      ap (λ (n : ℕ). first_within (args.versions - (loop.counter + 1)) args.section.now args.o (loop.pos + n)
           (args.o.min_seq + args.within)) s ∙ sym a ∙ loop.invariant.2,
     )
 
 pub shape_of-pairs : goal.shape_of-pairs
 shape_of-pairs c =
-    let loop = c.loop-left in
+    let loop = c.loop in
     ap length loop.invariant.0
 
 pub returns : goal.returns
 unfolding pairs_of pair_numbers
 returns c =
-    let loop = c.loop-left in
+    let loop = c.loop in
     let args = c.args in
-    let n = sym (ap pairs_of (sym loop.invariant.2 ∙ value_none args.section.now args.o loop.pos (args.o.min_seq + args.within) loop.left (search rules))) in
+    let n = sym (ap pairs_of (sym loop.invariant.2 ∙ value_none args.section.now args.o loop.pos (args.o.min_seq + args.within) (args.versions - loop.counter) (search rules))) in
     let l = ap length n in
     (omega arith, loop.invariant.0 ∙ ap (λ (ps : List Pair). sets args.pairs.now args.to (pair_numbers ps)) n)
