@@ -10,11 +10,11 @@ use native.Mathlib.Omega.{arith}
 use lib.Dec.{ltb, eqb}
 use lib.ListN.{length}
 use borrow.Author.Tests.{ltb-true, leb-true, eqb-true, eqb-false, lt-ltb, le-leb, eq-eqb, ne_eqb}
-use Rattle.num.specs.Choice.{when◌then◌else◌, either}
+use Rattle.num.specs.Choice.{either}
 use Rattle.num.proofs.Choice.{false_true, both_true, true_both}
 use Rattle.block.specs.declared.BlockMeta.{BlockMeta}
-use Rattle.block.specs.declared.Verified.{Verified}
-use Rattle.block.specs.declared.Verified.TheVariants.{Sound, Unsound}
+use Rattle.std.specs.Prelude.{Ok}
+use Rattle.refusal.proofs.Asked.{same_ok, asked, goes_on}
 use Rattle.block.specs.Verify.{restarts_in, entries_end_in, restart_at, restart_sound, restarts_sound, meta_of, restarts_verified, verify_of, SoundBlock}
 
 -- a number below another that is one more is below it or is it
@@ -83,23 +83,18 @@ module _ (raw : List ℕ) (end : ℕ) where
       go true e = refl
       go false e = let d = eqb-false i 0 e in lt-ltb _ _ (r (i - 1) (omega arith))
 
-passed : (b : Bool) (v : Verified) (m : BlockMeta) → (when b then v else Unsound) ≡ Sound m → (b ≡ true) × (v ≡ Sound m)
-unfolding when◌then◌else◌
-passed true v m e = (refl, e)
-passed false v m e = absurd (let z : ◌≡◌ {A = ℕ} 0 1 = cc in omega arith)
-
-sound_facts : (raw : List ℕ) (m : BlockMeta) → verify_of raw ≡ Sound m → SoundBlock raw m
+sound_facts : (raw : List ℕ) (m : BlockMeta) → verify_of raw ≡ Ok m → SoundBlock raw m
 unfolding verify_of restarts_verified meta_of restarts_in entries_end_in
 sound_facts raw m e =
-    let p₁ = passed _ _ m e in
-    let p₂ = passed _ _ m p₁.1 in
-    let p₃ = passed _ _ m p₂.1 in
-    let p₄ = passed _ _ m p₃.1 in
-    let p₅ = passed _ _ m p₄.1 in
-    let p₆ = passed _ _ m p₅.1 in
-    let p₇ = passed _ _ m p₆.1 in
-    let p₈ = passed _ _ m p₇.1 in
-    let q : meta_of raw ≡ m = cc in
+    let p₁ = asked _ _ _ m e in
+    let p₂ = asked _ _ _ m p₁.1 in
+    let p₃ = asked _ _ _ m p₂.1 in
+    let p₄ = asked _ _ _ m p₃.1 in
+    let p₅ = asked _ _ _ m p₄.1 in
+    let p₆ = asked _ _ _ m p₅.1 in
+    let p₇ = asked _ _ _ m p₆.1 in
+    let p₈ = asked _ _ _ m p₇.1 in
+    let q : meta_of raw ≡ m = same_ok p₈.1 in
     let l₁ : 34 ≤ length raw = leb-true _ _ p₁.0 in
     let l₅ : 4 * restarts_in raw ≤ length raw - 9 = leb-true _ _ p₅.0 in
     subst (SoundBlock raw) q
@@ -117,10 +112,6 @@ sound_facts raw m e =
       first = eqb-true _ _ p₈.0;
     })
 
-goes_on : (b : Bool) (v w : Verified) → b ≡ true → v ≡ w → (when b then v else Unsound) ≡ w
-unfolding when◌then◌else◌
-goes_on b v w p q = rw (p, q)
-
 -- a sound block's entries end where its length and its number of restart offsets say
 pub sound_end : (raw : List ℕ) (m : BlockMeta) → SoundBlock raw m → entries_end_in raw ≡ m.entries_end
 unfolding restarts_in entries_end_in
@@ -129,7 +120,7 @@ sound_end raw m f =
     let fit = f.fitting in
     omega arith
 
-facts_sound : (raw : List ℕ) (m : BlockMeta) → SoundBlock raw m → verify_of raw ≡ Sound m
+facts_sound : (raw : List ℕ) (m : BlockMeta) → SoundBlock raw m → verify_of raw ≡ Ok m
 unfolding verify_of restarts_verified meta_of restarts_in entries_end_in
 facts_sound raw m f =
     let n : restarts_in raw ≡ m.num_restarts = f.restarts in
@@ -140,15 +131,15 @@ facts_sound raw m f =
     (λ i. restarts_sound raw (e i) (n i))
     ∙ restarts_all raw _ _ (λ i l. restart_sound_lem raw _ i (f.inside i l) (λ j h. f.rising j i h l)) in
     let z : restart_at raw (entries_end_in raw) 0 ≡ 0 = ap (λ (k : ℕ). restart_at raw k 0) e ∙ f.first in
-    goes_on _ _ _ (le-leb 34 (length raw) f.long)
-    (goes_on _ _ _ (eq-eqb _ _ f.type_zero)
-    (goes_on _ _ _ (eq-eqb _ _ f.crc)
-    (goes_on _ _ _ (lt-ltb 0 (restarts_in raw) (let p = f.nonzero in omega arith))
-    (goes_on _ _ _ (le-leb (4 * restarts_in raw) (length raw - 9) (omega arith))
-    (goes_on _ _ _ (le-leb 21 (entries_end_in raw) (let p = f.room in omega arith))
-    (goes_on _ _ _ s
-    (goes_on _ _ _ (eq-eqb _ _ z) (ap Sound q))))))))
+    goes_on _ _ _ _ (le-leb 34 (length raw) f.long)
+    (goes_on _ _ _ _ (eq-eqb _ _ f.type_zero)
+    (goes_on _ _ _ _ (eq-eqb _ _ f.crc)
+    (goes_on _ _ _ _ (lt-ltb 0 (restarts_in raw) (let p = f.nonzero in omega arith))
+    (goes_on _ _ _ _ (le-leb (4 * restarts_in raw) (length raw - 9) (omega arith))
+    (goes_on _ _ _ _ (le-leb 21 (entries_end_in raw) (let p = f.room in omega arith))
+    (goes_on _ _ _ _ s
+    (goes_on _ _ _ _ (eq-eqb _ _ z) (ap Ok q))))))))
 
 -- a block is sound exactly if the plain facts hold, and the numbers answered are theirs
-pub sound_exactly : (raw : List ℕ) (m : BlockMeta) → (verify_of raw ≡ Sound m) ↔ SoundBlock raw m
+pub sound_exactly : (raw : List ℕ) (m : BlockMeta) → (verify_of raw ≡ Ok m) ↔ SoundBlock raw m
 sound_exactly raw m = (sound_facts raw m, facts_sound raw m)

@@ -2,25 +2,21 @@
 -- Assumes nothing.
 use mathlib.Core.Path.{◌≡◌, refl, sym, ap, ◌∙◌, subst}
 use mathlib.Core.List.{List, ◌++◌}
-use mathlib.Core.Bool.{Bool, true, false}
 use Prim.Native.Nat.{ℕ, ◌+◌, ◌-◌, ◌<◌, ◌≤◌}
 use native.Mathlib.Omega.{arith}
 use lib.ListN.{length, get_or, take, drop, length-append, length-drop}
 use lib.Seq.{sets, length-take-le, take-take}
 use borrow.Author.Tests.{leb-true}
-use Rattle.num.specs.Choice.{when◌then◌else◌}
 use Rattle.num.specs.Number.{le_at, Bytes}
 use Rattle.num.proofs.Lists.{bytes_take, bytes_drop, bytes_append}
 use Rattle.num.proofs.Copy.{take_sets}
 use Rattle.sstable.specs.Kind.{kind_of}
 use Rattle.sstable.specs.declared.Kind.TheVariants.{Tombstone}
-use Rattle.sstable.specs.declared.KindRead.TheVariants.{Known}
+use Rattle.refusal.specs.declared.Refusal.{Refusal}
+use Rattle.std.specs.Prelude.{Result, Ok, Err}
+use Rattle.refusal.proofs.Asked.{refused_ok, same_ok, asked}
 use Rattle.block.specs.declared.EntryHeader.{EntryHeader}
-use Rattle.block.specs.declared.EntryRead.{EntryRead}
-use Rattle.block.specs.declared.EntryRead.TheVariants as read
 use Rattle.block.specs.declared.Record.{Record}
-use Rattle.block.specs.declared.Stepped.{Stepped}
-use Rattle.block.specs.declared.Stepped.TheVariants.{Met, Stopped}
 use Rattle.block.specs.EntryHeader.{entry_header_of, SoundEntry}
 use Rattle.block.specs.Record.{record_from, record_at_for, record_at}
 use Rattle.block.specs.Walk.{Entry, met, stop, step_for, step_of, entry_of}
@@ -28,26 +24,21 @@ use Rattle.block.proofs.Header.{entry_exactly}
 
 -- ---- the record that is answered
 
-kept : (b : Bool) (q r : Record) → when◌then◌else◌ b (Met q) Stopped ≡ Met r → (b ≡ true) × (q ≡ r)
-unfolding when◌then◌else◌
-kept true q r e = (refl, cc)
-kept false q r e = absurd (let z : ◌≡◌ {A = ℕ} 0 1 = cc in omega arith)
-
 -- what a record that is answered was made of
 record Answered (s : List ℕ) (end pos keyLen : ℕ) (r : Record) : Type 0 where
   header : EntryHeader
-  passes : entry_header_of s end pos ≡ read.Read header
+  passes : entry_header_of s end pos ≡ Ok header
   shared : header.shared ≤ keyLen
   made : record_from pos header ≡ r
 
-answered_for : (s : List ℕ) (end pos keyLen : ℕ) (r : Record) (q : EntryRead) → entry_header_of s end pos ≡ q → record_at_for pos keyLen q ≡ Met r → Answered s end pos keyLen r
+answered_for : (s : List ℕ) (end pos keyLen : ℕ) (r : Record) (q : Result EntryHeader Refusal) → entry_header_of s end pos ≡ q → record_at_for pos keyLen q ≡ Ok r → Answered s end pos keyLen r
 unfolding record_at_for
-answered_for s end pos keyLen r (read.Read h) p e =
-    let k = kept _ _ r e in
-    record { header = h; passes = p; shared = leb-true _ _ k.0; made = k.1 }
-answered_for s end pos keyLen r read.Bad p e = absurd (let z : ◌≡◌ {A = ℕ} 0 1 = cc in omega arith)
+answered_for s end pos keyLen r (Ok h) p e =
+    let k = asked _ _ _ r e in
+    record { header = h; passes = p; shared = leb-true _ _ k.0; made = same_ok k.1 }
+answered_for s end pos keyLen r (Err x) p e = refused_ok e
 
-answered : (s : List ℕ) (end pos keyLen : ℕ) (r : Record) → record_at s end pos keyLen ≡ Met r → Answered s end pos keyLen r
+answered : (s : List ℕ) (end pos keyLen : ℕ) (r : Record) → record_at s end pos keyLen ≡ Ok r → Answered s end pos keyLen r
 unfolding record_at
 answered s end pos keyLen r e = answered_for s end pos keyLen r (entry_header_of s end pos) refl e
 
@@ -59,7 +50,7 @@ pub record RecordInside (end pos keyLen : ℕ) (r : Record) : Type 0 where
   pub next : r.place + r.size ≡ r.next
   pub inside : r.next ≤ end
 
-pub record_inside : (s : List ℕ) (end pos keyLen : ℕ) (r : Record) → record_at s end pos keyLen ≡ Met r → RecordInside end pos keyLen r
+pub record_inside : (s : List ℕ) (end pos keyLen : ℕ) (r : Record) → record_at s end pos keyLen ≡ Ok r → RecordInside end pos keyLen r
 unfolding record_from
 record_inside s end pos keyLen r e =
     let a = answered s end pos keyLen r e in
@@ -72,21 +63,21 @@ record_inside s end pos keyLen r e =
 -- ---- the record with its key
 
 -- a step behind a key of that length meets what `record_at` answers, with the key
-pub step_met : (s : List ℕ) (end pos : ℕ) (prev : List ℕ) (r : Record) → record_at s end pos (length prev) ≡ Met r
+pub step_met : (s : List ℕ) (end pos : ℕ) (prev : List ℕ) (r : Record) → record_at s end pos (length prev) ≡ Ok r
     → step_of s end pos prev ≡ met (entry_of s pos prev r) r.next
 unfolding step_of step_for
 step_met s end pos prev r e = ap (step_for s pos prev) e
 
 -- and stops where `record_at` stops
-pub step_stop : (s : List ℕ) (end pos : ℕ) (prev : List ℕ) → record_at s end pos (length prev) ≡ Stopped → step_of s end pos prev ≡ stop
+pub step_stop : (s : List ℕ) (end pos : ℕ) (prev : List ℕ) (x : Refusal) → record_at s end pos (length prev) ≡ Err x → step_of s end pos prev ≡ stop
 unfolding step_of step_for
-step_stop s end pos prev e = ap (step_for s pos prev) e
+step_stop s end pos prev x e = ap (step_for s pos prev) e
 
 -- ---- a step that meets an entry
 
 -- what stands there, and where it lies
 pub record Moved (s : List ℕ) (end pos : ℕ) (prev : List ℕ) (e : Entry) (next : ℕ) : Type 0 where
-  pub kind : kind_of (get_or s pos 0) ≡ Known e.kind
+  pub kind : kind_of (get_or s pos 0) ≡ Ok e.kind
   pub seq : le_at s (pos + 13) 8 ≡ e.seq
   pub size : le_at s (pos + 9) 4 ≡ e.size
   pub tombstone_empty : e.kind ≡ Tombstone → e.size ≡ 0
@@ -122,10 +113,10 @@ made_moved s end pos prev h f l =
       within = i;
     }
 
-moved_for : (s : List ℕ) (end pos : ℕ) (prev : List ℕ) (e : Entry) (next : ℕ) (q : Stepped)
+moved_for : (s : List ℕ) (end pos : ℕ) (prev : List ℕ) (e : Entry) (next : ℕ) (q : Result Record Refusal)
     → record_at s end pos (length prev) ≡ q → step_for s pos prev q ≡ met e next → Moved s end pos prev e next
 unfolding step_for
-moved_for s end pos prev e next (Met r) p t =
+moved_for s end pos prev e next (Ok r) p t =
     let a = answered s end pos (length prev) r p in
     let x : entry_of s pos prev r ≡ e = cc in
     let y : r.next ≡ next = cc in
@@ -133,7 +124,7 @@ moved_for s end pos prev e next (Met r) p t =
     (subst (Moved s end pos prev (entry_of s pos prev r)) y
     (subst (λ (z : Record). Moved s end pos prev (entry_of s pos prev z) z.next) a.made
     (made_moved s end pos prev a.header ((entry_exactly s end pos a.header).0 a.passes) a.shared)))
-moved_for s end pos prev e next Stopped p t = absurd (let z : ◌≡◌ {A = ℕ} 0 1 = cc in omega arith)
+moved_for s end pos prev e next (Err x) p t = absurd (let z : ◌≡◌ {A = ℕ} 0 1 = cc in omega arith)
 
 pub step_moved : (s : List ℕ) (end pos : ℕ) (prev : List ℕ) (e : Entry) (next : ℕ) → step_of s end pos prev ≡ met e next → Moved s end pos prev e next
 unfolding step_of

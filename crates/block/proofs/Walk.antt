@@ -12,7 +12,7 @@ use borrow.Author.Tests.{leb-true, leb-false, le-leb, lt-leb}
 use Rattle.num.specs.Number.{Bytes}
 use Rattle.sstable.specs.declared.Kind.TheVariants.{Tombstone}
 use Rattle.block.specs.declared.BlockMeta.{BlockMeta}
-use Rattle.block.specs.declared.Verified.TheVariants.{Sound}
+use Rattle.std.specs.Prelude.{Ok}
 use Rattle.block.specs.Verify.{verify_of}
 use Rattle.block.specs.Walk.{Entry, Step, met, stop, step_of, Walk, at_end, stopped, no_entries, entry_then, walk_from, walk_at, records_of}
 use Rattle.block.proofs.Sound.{sound_exactly, sound_end}
@@ -142,6 +142,6 @@ walk_bytes s end b =
     ⊎_elim (λ same. subst (λ (y : Entry). Bytes y.key) (sym same) k) (λ later. rest k e later) (Memᴰ.cases_cons i))
 
 -- the records of a sound block are those of the walk from its start to the end of its entries
-pub records_sound : (raw : List ℕ) (m : BlockMeta) → verify_of raw ≡ Sound m → records_of raw ≡ walk_at raw m.entries_end 0 []
+pub records_sound : (raw : List ℕ) (m : BlockMeta) → verify_of raw ≡ Ok m → records_of raw ≡ walk_at raw m.entries_end 0 []
 unfolding records_of
 records_sound raw m e = ap (λ (end : ℕ). walk_at raw end 0 []) (sound_end raw m ((sound_exactly raw m).0 e))

@@ -1,16 +1,14 @@
 -- Question 13, first half: does an entry pass `header_at`?
 -- An entry: kind at 0, shared length at 1, length of the rest of the key at 5, value length at 9, sequence at 13, the rest of the key at 21, the value.
-use Rattle.std.specs.Prelude.{◌≡◌, ℕ, ◌+◌, ◌≤◌, List, Bool, true, leb, eqb, get_or}
+use Rattle.std.specs.Prelude.{◌≡◌, ℕ, ◌+◌, ◌≤◌, List, Bool, true, leb, eqb, get_or, Result, Ok, Err}
 use Rattle.num.specs.Choice.{when◌then◌else◌, ask◌otherwise◌then◌}
 use Rattle.num.specs.Number.{le_at}
 use Rattle.sstable.specs.Kind.{kind_of}
 use Rattle.sstable.specs.declared.Kind.{Kind}
 use Rattle.sstable.specs.declared.Kind.TheVariants.{Put, Tombstone}
-use Rattle.sstable.specs.declared.KindRead.{KindRead}
-use Rattle.sstable.specs.declared.KindRead.TheVariants.{Known, Unknown}
+use Rattle.refusal.specs.declared.Refusal.{Refusal}
+use Rattle.refusal.specs.declared.Refusal.TheVariants as refusal
 use Rattle.block.specs.declared.EntryHeader.{EntryHeader}
-use Rattle.block.specs.declared.EntryRead.{EntryRead}
-use Rattle.block.specs.declared.EntryRead.TheVariants.{Read, Bad}
 
 -- the numbers of the entry at a place
 unfoldable pub entry_numbers : List ℕ → ℕ → Kind → EntryHeader
@@ -29,27 +27,27 @@ value_allowed Put n = true
 value_allowed Tombstone n = eqb n 0
 
 -- is the value allowed, and do key and value lie before the end of the entries?
-unfoldable pub entry_header_for : ℕ → ℕ → EntryHeader → EntryRead
+unfoldable pub entry_header_for : ℕ → ℕ → EntryHeader → Result EntryHeader Refusal
 entry_header_for end pos h =
-    ask value_allowed h.kind h.value_len otherwise Bad then
-    ask leb (pos + 21 + h.non_shared + h.value_len) end otherwise Bad then
-    Read h
+    ask value_allowed h.kind h.value_len otherwise Err refusal.Entry then
+    ask leb (pos + 21 + h.non_shared + h.value_len) end otherwise Err refusal.Entry then
+    Ok h
 
 -- is the kind known?
-unfoldable pub entry_header_kind : List ℕ → ℕ → ℕ → KindRead → EntryRead
-entry_header_kind s end pos (Known k) = entry_header_for end pos (entry_numbers s pos k)
-entry_header_kind s end pos Unknown = Bad
+unfoldable pub entry_header_kind : List ℕ → ℕ → ℕ → Result Kind Refusal → Result EntryHeader Refusal
+entry_header_kind s end pos (Ok k) = entry_header_for end pos (entry_numbers s pos k)
+entry_header_kind s end pos (Err e) = Err e
 
 -- does the header lie before the end of the entries?
-unfoldable pub entry_header_of : List ℕ → ℕ → ℕ → EntryRead
+unfoldable pub entry_header_of : List ℕ → ℕ → ℕ → Result EntryHeader Refusal
 entry_header_of s end pos =
-    ask leb (pos + 21) end otherwise Bad then
+    ask leb (pos + 21) end otherwise Err refusal.Entry then
     entry_header_kind s end pos (kind_of (get_or s pos 0))
 
 -- the same in plain terms: an entry before the end, and its numbers
 pub record SoundEntry (s : List ℕ) (end pos : ℕ) (h : EntryHeader) : Type 0 where
   pub header_inside : pos + 21 ≤ end
-  pub kind : kind_of (get_or s pos 0) ≡ Known h.kind
+  pub kind : kind_of (get_or s pos 0) ≡ Ok h.kind
   pub seq : le_at s (pos + 13) 8 ≡ h.seq
   pub shared : le_at s (pos + 1) 4 ≡ h.shared
   pub non_shared : le_at s (pos + 5) 4 ≡ h.non_shared

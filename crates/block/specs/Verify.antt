@@ -1,12 +1,12 @@
 -- Question 12: does the block pass `VerifiedBlock::verify`?
 -- A block is entries, restart offsets of 4 bytes, their number in 4 bytes, a type byte, and the CRC-32 of all before it.
-use Rattle.std.specs.Prelude.{◌≡◌, ℕ, zero, suc, ◌+◌, ◌*◌, ◌-◌, ◌<◌, ◌≤◌, List, Bool, true, leb, ltb, eqb, length, get_or, take}
+use Rattle.std.specs.Prelude.{◌≡◌, ℕ, zero, suc, ◌+◌, ◌*◌, ◌-◌, ◌<◌, ◌≤◌, List, Bool, true, leb, ltb, eqb, length, get_or, take, Result, Ok, Err}
 use Rattle.num.specs.Choice.{when◌then◌else◌, ask◌otherwise◌then◌, both, either}
 use Rattle.num.specs.Number.{le_at}
 use Rattle.crc32.specs.V42.{crc_of}
 use Rattle.block.specs.declared.BlockMeta.{BlockMeta}
-use Rattle.block.specs.declared.Verified.{Verified}
-use Rattle.block.specs.declared.Verified.TheVariants.{Sound, Unsound}
+use Rattle.refusal.specs.declared.Refusal.{Refusal}
+use Rattle.refusal.specs.declared.Refusal.TheVariants as refusal
 
 -- the number of restart offsets
 unfoldable pub restarts_in : List ℕ → ℕ
@@ -33,26 +33,21 @@ unfoldable pub meta_of : List ℕ → BlockMeta
 meta_of raw = record { entries_end = entries_end_in raw; restart_start = entries_end_in raw; num_restarts = restarts_in raw }
 
 -- from the number of restart offsets on
-unfoldable pub restarts_verified : List ℕ → Verified
+unfoldable pub restarts_verified : List ℕ → Result BlockMeta Refusal
 restarts_verified raw =
-    ask ltb 0 (restarts_in raw) otherwise Unsound then
-    ask leb (4 * restarts_in raw) (length raw - 9) otherwise Unsound then
-    ask leb 21 (entries_end_in raw) otherwise Unsound then
-    ask restarts_sound raw (entries_end_in raw) (restarts_in raw) otherwise Unsound then
-    ask eqb (restart_at raw (entries_end_in raw) 0) 0 otherwise Unsound then
-    Sound (meta_of raw)
+    ask ltb 0 (restarts_in raw) otherwise Err refusal.Block then
+    ask leb (4 * restarts_in raw) (length raw - 9) otherwise Err refusal.Block then
+    ask leb 21 (entries_end_in raw) otherwise Err refusal.Block then
+    ask restarts_sound raw (entries_end_in raw) (restarts_in raw) otherwise Err refusal.Block then
+    ask eqb (restart_at raw (entries_end_in raw) 0) 0 otherwise Err refusal.Block then
+    Ok (meta_of raw)
 
-unfoldable pub verify_of : List ℕ → Verified
+unfoldable pub verify_of : List ℕ → Result BlockMeta Refusal
 verify_of raw =
-    ask leb (21 + 4 + 4 + 5) (length raw) otherwise Unsound then
-    ask eqb (get_or raw (length raw - 5) 0) 0 otherwise Unsound then
-    ask eqb (le_at raw (length raw - 4) 4) (crc_of (take (length raw - 4) raw)) otherwise Unsound then
+    ask leb (21 + 4 + 4 + 5) (length raw) otherwise Err refusal.Block then
+    ask eqb (get_or raw (length raw - 5) 0) 0 otherwise Err refusal.Block then
+    ask eqb (le_at raw (length raw - 4) 4) (crc_of (take (length raw - 4) raw)) otherwise Err refusal.Block then
     restarts_verified raw
-
--- the number of the question that is answered with no, 0 if none is
-unfoldable pub verified_number : Verified → ℕ
-verified_number (Sound m) = 0
-verified_number Unsound = 12
 
 -- question 12 in plain terms: a sound block, and the numbers that are answered
 pub record SoundBlock (raw : List ℕ) (m : BlockMeta) : Type 0 where
@@ -70,5 +65,5 @@ pub record SoundBlock (raw : List ℕ) (m : BlockMeta) : Type 0 where
 
 -- for proofs alone: `unfolding verify_defs` opens the definitions of this file
 unfoldable pub verify_defs : ℕ
-unfolding restarts_in entries_end_in restart_at restart_sound restarts_sound meta_of restarts_verified verify_of verified_number when◌then◌else◌
+unfolding restarts_in entries_end_in restart_at restart_sound restarts_sound meta_of restarts_verified verify_of when◌then◌else◌
 verify_defs = 0

@@ -1,9 +1,8 @@
 -- The records of a block, one after another (question 13).
-use Rattle.std.specs.Prelude.{ℕ, zero, suc, ◌+◌, ◌-◌, List, [], ◌∷◌, ◌++◌, true, false, leb, length, take, drop}
+use Rattle.std.specs.Prelude.{ℕ, zero, suc, ◌+◌, ◌-◌, List, [], ◌∷◌, ◌++◌, true, false, leb, length, take, drop, Result, Ok, Err}
 use Rattle.sstable.specs.declared.Kind.{Kind}
 use Rattle.block.specs.declared.Record.{Record}
-use Rattle.block.specs.declared.Stepped.{Stepped}
-use Rattle.block.specs.declared.Stepped.TheVariants.{Met, Stopped}
+use Rattle.refusal.specs.declared.Refusal.{Refusal}
 use Rattle.block.specs.Record.{record_at}
 use Rattle.block.specs.Verify.{entries_end_in}
 
@@ -32,9 +31,9 @@ entry_of s pos prev r =
       size = r.size;
     }
 
-unfoldable pub step_for : List ℕ → ℕ → List ℕ → Stepped → Step
-step_for s pos prev (Met r) = met (entry_of s pos prev r) r.next
-step_for s pos prev Stopped = stop
+unfoldable pub step_for : List ℕ → ℕ → List ℕ → Result Record Refusal → Step
+step_for s pos prev (Ok r) = met (entry_of s pos prev r) r.next
+step_for s pos prev (Err e) = stop
 
 -- the step from a place, behind the previous key
 unfoldable pub step_of : List ℕ → ℕ → ℕ → List ℕ → Step

@@ -3,29 +3,24 @@
 
 ghost use Rattle.std.specs.Prelude.{◌≡◌, true, ◌+◌, ◌*◌, ◌≤◌, length, take, drop};
 ghost use Rattle.std.proofs.lemmas.List.Edits.{sets};
-ghost use Rattle.crc32.specs.Table.{is_table};
 ghost use Rattle.block.specs.Verify.{restart_at, restart_sound, restarts_sound, restarts_verified, verify_of};
 ghost use Rattle.block.specs.EntryHeader.{entry_numbers, value_allowed, entry_header_for, entry_header_of};
 ghost use Rattle.block.specs.Record.{record_at};
 
-use sstable::{Kind, KindRead};
+use num::LittleEndian;
+use refusal::{Refusal, ask};
+use sstable::Kind;
 
 // Where a block's entries end, where its restart offsets start, and how many they are.
-#[derive(Clone, Copy)]
+#[derive(Clone, Copy, Debug, PartialEq, Eq)]
 pub struct BlockMeta {
     pub entries_end: usize,
     pub restart_start: usize,
     pub num_restarts: usize,
 }
 
-#[derive(Clone, Copy)]
-pub enum Verified {
-    Sound(BlockMeta),
-    Unsound,
-}
-
 // The numbers of an entry.
-#[derive(Clone, Copy)]
+#[derive(Clone, Copy, Debug, PartialEq, Eq)]
 pub struct EntryHeader {
     pub kind: Kind,
     pub seq: u64,
@@ -34,15 +29,8 @@ pub struct EntryHeader {
     pub value_len: usize,
 }
 
-// The numbers of an entry that passes `header_at`.
-#[derive(Clone, Copy)]
-pub enum EntryRead {
-    Read(EntryHeader),
-    Bad,
-}
-
 // A record of the walk: the value's place in the block and its length, and the place of the next record.
-#[derive(Clone, Copy)]
+#[derive(Clone, Copy, Debug, PartialEq, Eq)]
 pub struct Record {
     pub kind: Kind,
     pub seq: u64,
@@ -53,12 +41,6 @@ pub struct Record {
     pub next: usize,
 }
 
-#[derive(Clone, Copy)]
-pub enum Stepped {
-    Met(Record),
-    Stopped,
-}
-
 const ENTRY_FIXED_LEN: usize = 21;
 
 // One entry, one restart offset, their number, the trailer of 5 bytes.
@@ -66,66 +48,54 @@ const MIN_BLOCK_LEN: usize = 34;
 
 const BLOCK_TYPE_NONE: u8 = 0;
 
+#[tactic(auto, unfolding(crate::specs::Verify::verify_defs))]
 fn restart_offset_of(data: &[u8], restart_start: usize, i: usize) -> usize
     requires { restart_start + 4 * i + 4 ≤ length «data».now }
     ensures { result ≡ restart_at «data».now restart_start i }
 {
-    num::u32_at(data, restart_start + 4 * i) as usize
+    u32::read(data, restart_start + 4 * i) as usize
 }
 
+#[tactic(auto, unfolding(crate::specs::Verify::verify_defs, num::specs::Choice::choice_defs))]
 fn restart_sound(raw: &[u8], entries_end: usize, i: usize) -> bool
     requires { entries_end + 4 * i + 4 ≤ length raw.now }
     ensures { result ≡ restart_sound raw.now entries_end i }
 {
     let offset = restart_offset_of(raw, entries_end, i);
-    if entries_end <= offset {
-        return false;
-    }
-    if i == 0 {
-        return true;
-    }
-    let before = restart_offset_of(raw, entries_end, i - 1);
-    before < offset
+    offset < entries_end && (i == 0 || restart_offset_of(raw, entries_end, i - 1) < offset)
 }
 
+#[tactic(auto, using(crate::proofs::Sound::restarts_none, crate::proofs::Sound::restarts_more, crate::proofs::Sound::restarts_unsound))]
 fn restarts_sound(raw: &[u8], entries_end: usize, num_restarts: usize) -> bool
     requires { entries_end + 4 * num_restarts ≤ length raw.now }
     ensures { result ≡ restarts_sound raw.now entries_end num_restarts }
 {
-    let mut i = 0;
-    while i < num_restarts {
+    for i in 0..num_restarts {
         if !restart_sound(raw, entries_end, i) {
             return false;
         }
-        i += 1;
     }
     true
 }
 
 // Question 12 from the number of restarts on.
-fn verify_restarts(raw: &[u8]) -> Verified
+#[tactic(auto, unfolding(crate::specs::Verify::verify_defs, num::specs::Choice::choice_defs))]
+fn verify_restarts(raw: &[u8]) -> Result<BlockMeta, Refusal>
     requires { 34 ≤ length raw.now }
     ensures { result ≡ restarts_verified raw.now }
 {
     let behind = raw.len() - 9;
-    let num_restarts = num::u32_at(raw, behind) as usize;
-    if num_restarts == 0 {
-        return Verified::Unsound;
-    }
-    if behind < 4 * num_restarts {
-        return Verified::Unsound;
-    }
+    let num_restarts = u32::read(raw, behind) as usize;
+    ask(0 < num_restarts, Refusal::Block)?;
+    ask(4 * num_restarts <= behind, Refusal::Block)?;
     let entries_end = behind - 4 * num_restarts;
-    if entries_end < ENTRY_FIXED_LEN {
-        return Verified::Unsound;
-    }
-    if !restarts_sound(raw, entries_end, num_restarts) {
-        return Verified::Unsound;
-    }
-    if restart_offset_of(raw, entries_end, 0) != 0 {
-        return Verified::Unsound;
-    }
-    Verified::Sound(BlockMeta {
+    ask(ENTRY_FIXED_LEN <= entries_end, Refusal::Block)?;
+    ask(
+        restarts_sound(raw, entries_end, num_restarts),
+        Refusal::Block,
+    )?;
+    ask(restart_offset_of(raw, entries_end, 0) == 0, Refusal::Block)?;
+    Ok(BlockMeta {
         entries_end,
         restart_start: entries_end,
         num_restarts,
@@ -133,24 +103,21 @@ fn verify_restarts(raw: &[u8]) -> Verified
 }
 
 // Question 12.
-pub fn verify(table: &[[u32; 256]; 8], raw: &[u8]) -> Verified
-    requires { is_table table.now ≡ true }
+#[tactic(auto, unfolding(crate::specs::Verify::verify_defs, num::specs::Choice::choice_defs))]
+pub fn verify(raw: &[u8]) -> Result<BlockMeta, Refusal>
     ensures { result ≡ verify_of raw.now }
 {
-    let len = raw.len();
-    if len < MIN_BLOCK_LEN {
-        return Verified::Unsound;
-    }
-    if raw[len - 5] != BLOCK_TYPE_NONE {
-        return Verified::Unsound;
-    }
-    let stored = num::u32_at(raw, len - 4);
-    if stored != crc32::crc32_with(table, &raw[0..len - 4]) {
-        return Verified::Unsound;
-    }
+    ask(MIN_BLOCK_LEN <= raw.len(), Refusal::Block)?;
+    let body = raw.len() - 4;
+    ask(raw[body - 1] == BLOCK_TYPE_NONE, Refusal::Block)?;
+    ask(
+        u32::read(raw, body) == crc32::crc32(&raw[..body]),
+        Refusal::Block,
+    )?;
     verify_restarts(raw)
 }
 
+#[tactic(auto, unfolding(crate::specs::EntryHeader::entry_header_defs))]
 fn value_allowed(kind: Kind, value_len: usize) -> bool
     ensures { result ≡ value_allowed kind value_len }
 {
@@ -160,94 +127,79 @@ fn value_allowed(kind: Kind, value_len: usize) -> bool
     }
 }
 
+#[tactic(auto, unfolding(crate::specs::EntryHeader::entry_header_defs))]
 fn entry_numbers(data: &[u8], pos: usize, kind: Kind) -> EntryHeader
     requires { pos + 21 ≤ length «data».now }
     ensures { result ≡ entry_numbers «data».now pos kind }
 {
     EntryHeader {
         kind,
-        seq: num::u64_at(data, pos + 13),
-        shared: num::u32_at(data, pos + 1) as usize,
-        non_shared: num::u32_at(data, pos + 5) as usize,
-        value_len: num::u32_at(data, pos + 9) as usize,
+        seq: u64::read(data, pos + 13),
+        shared: u32::read(data, pos + 1) as usize,
+        non_shared: u32::read(data, pos + 5) as usize,
+        value_len: u32::read(data, pos + 9) as usize,
     }
 }
 
-fn entry_inside(entries_end: usize, pos: usize, h: EntryHeader) -> EntryRead
+// Does the value's length fit the kind, and do key and value lie before the end of the entries?
+#[tactic(auto, unfolding(crate::specs::EntryHeader::entry_header_defs, num::specs::Choice::choice_defs))]
+fn entry_inside(entries_end: usize, pos: usize, h: EntryHeader) -> Result<EntryHeader, Refusal>
     requires { pos + 21 ≤ entries_end }
     ensures { result ≡ entry_header_for entries_end pos h }
 {
-    let kind = h.kind;
-    if !value_allowed(kind, h.value_len) {
-        return EntryRead::Bad;
-    }
+    ask(value_allowed(h.kind, h.value_len), Refusal::Entry)?;
     let room = entries_end - (pos + ENTRY_FIXED_LEN);
-    if room < h.non_shared {
-        return EntryRead::Bad;
-    }
-    if room - h.non_shared < h.value_len {
-        return EntryRead::Bad;
-    }
-    EntryRead::Read(h)
+    ask(
+        h.non_shared <= room && h.value_len <= room - h.non_shared,
+        Refusal::Entry,
+    )?;
+    Ok(h)
 }
 
 // Question 13 of an entry alone: its header, its kind, and its key and value.
-pub fn header_at(data: &[u8], entries_end: usize, pos: usize) -> EntryRead
+#[tactic(auto, unfolding(crate::specs::EntryHeader::entry_header_defs, num::specs::Choice::choice_defs))]
+pub fn header_at(data: &[u8], entries_end: usize, pos: usize) -> Result<EntryHeader, Refusal>
     requires { entries_end ≤ length «data».now }
     ensures { result ≡ entry_header_of «data».now entries_end pos }
 {
-    if entries_end < ENTRY_FIXED_LEN {
-        return EntryRead::Bad;
-    }
-    if entries_end - ENTRY_FIXED_LEN < pos {
-        return EntryRead::Bad;
-    }
-    let read = Kind::from_u8(data[pos]);
-    match read {
-        KindRead::Known(kind) => {
-            let h = entry_numbers(data, pos, kind);
-            entry_inside(entries_end, pos, h)
-        }
-        KindRead::Unknown => EntryRead::Bad,
-    }
+    ask(
+        ENTRY_FIXED_LEN <= entries_end && pos <= entries_end - ENTRY_FIXED_LEN,
+        Refusal::Entry,
+    )?;
+    let kind = Kind::try_from(data[pos])?;
+    entry_inside(entries_end, pos, entry_numbers(data, pos, kind))
 }
 
 // The record at a place, behind a key of the given length.
-pub fn record_at(data: &[u8], entries_end: usize, pos: usize, key_len: usize) -> Stepped
+#[tactic(auto, unfolding(crate::specs::Record::record_at_defs, num::specs::Choice::choice_defs))]
+pub fn record_at(
+    data: &[u8],
+    entries_end: usize,
+    pos: usize,
+    key_len: usize,
+) -> Result<Record, Refusal>
     requires { entries_end ≤ length «data».now }
     ensures { result ≡ record_at «data».now entries_end pos key_len }
 {
-    let read = header_at(data, entries_end, pos);
-    match read {
-        EntryRead::Read(h) => {
-            if h.shared <= key_len {
-                let kind = h.kind;
-                let place = pos + ENTRY_FIXED_LEN + h.non_shared;
-                Stepped::Met(Record {
-                    kind,
-                    seq: h.seq,
-                    shared: h.shared,
-                    key_len: h.shared + h.non_shared,
-                    place,
-                    size: h.value_len,
-                    next: place + h.value_len,
-                })
-            } else {
-                Stepped::Stopped
-            }
-        }
-        EntryRead::Bad => Stepped::Stopped,
-    }
+    let h = header_at(data, entries_end, pos)?;
+    ask(h.shared <= key_len, Refusal::Entry)?;
+    let place = pos + ENTRY_FIXED_LEN + h.non_shared;
+    Ok(Record {
+        kind: h.kind,
+        seq: h.seq,
+        shared: h.shared,
+        key_len: h.shared + h.non_shared,
+        place,
+        size: h.value_len,
+        next: place + h.value_len,
+    })
 }
 
 // Copies the bytes that a key does not share behind those that it does.
+#[tactic(auto, using(num::proofs::Copy::copied))]
 pub fn copy_key(data: &[u8], from: usize, count: usize, scratch: &mut [u8], at: usize)
     requires { (from + count ≤ length «data».now) × (at + count ≤ length scratch.old) }
     ensures { scratch.new ≡ sets scratch.old at (take count (drop from «data».now)) }
 {
-    let mut done = 0;
-    while done < count {
-        scratch[at + done] = data[from + done];
-        done += 1;
-    }
+    scratch[at..at + count].copy_from_slice(&data[from..from + count]);
 }

@@ -10,10 +10,10 @@ use native.Mathlib.Omega.{arith}
 use lib.Pow.{shr_lt, pow-add}
 use lib.Dec.{eqb, lit<}
 use lib.ListN.{length, replicate, length-append}
-use lib.Bits.{bit_xor, xor_block, xor_zero_r, xor_comm}
+use lib.Bits.{bit_xor, xor_assoc, xor_block, xor_zero_r, xor_comm}
 use Rattle.num.specs.Choice.{when◌then◌else◌, choice_defs}
 use Rattle.num.specs.Number.{Bytes}
-use Rattle.num.proofs.Xor.{xor_assoc, bit_ind}
+use Rattle.num.proofs.Xor.{bit_ind}
 use Rattle.num.proofs.Lists.{bytes_append}
 use Rattle.crc32.specs.V42.{sum, add, bits_of, content, number_of, sum_of_remainders, crc_of, update_of, finalize_of, crc_defs}
 use Rattle.crc32.proofs.Polynomial.{rest, length_rest, reduced, length_reduced, remainders_none, remainders_bit, length_sum_of_remainders}

@@ -3,4 +3,4 @@ pub mod Polynomial
 pub mod Register
 pub mod Division
 pub mod Table
-pub mod Walk
+pub mod Chunks

@@ -8,11 +8,10 @@ use native.Mathlib.Nat.{mod-lt, zero-add, suc-add}
 use native.Mathlib.Omega.{arith}
 use lib.Dec.{lit<, eqb}
 use lib.Pow.{pow_pos, split}
-use lib.Bits.{bit_xor, xor_shr, xor_mod, xor_shifted, xor_comm, xor_zero_r, shifted_half, shifted_even}
+use lib.Bits.{bit_xor, xor_assoc, xor_shr, xor_mod, xor_shifted, xor_comm, xor_zero_r, shifted_half, shifted_even}
 use Rattle.num.specs.Choice.{when◌then◌else◌}
 use Rattle.num.specs.Number.{le_bytes}
 use Rattle.num.proofs.Number.{pow_step}
-use Rattle.num.proofs.Xor.{bit_ind, xor_assoc, xor_left_comm}
 
 -- the generator without x^32, the coefficient of x^31 as the lowest bit
 abbrev pub poly : ℕ
@@ -38,24 +37,36 @@ extra x = when◌then◌else◌ (eqb x 1) poly 0
 
 step_as : (c : ℕ) → bit_step c ≡ bit_xor (extra (c % 2)) (c / 2)
 unfolding bit_step extra when◌then◌else◌
-step_as c =
-    bit_ind (λ (x : ℕ). when◌then◌else◌ (eqb x 1) (bit_xor poly (c / 2)) (c / 2) ≡ bit_xor (when◌then◌else◌ (eqb x 1) poly 0) (c / 2)) refl refl (c % 2) (mod-lt c (lit< tt))
+step_as c = by_bit (c % 2) (mod-lt c (lit< tt))
+  where
+    by_bit : (x : ℕ) → x < 2 → when◌then◌else◌ (eqb x 1) (bit_xor poly (c / 2)) (c / 2) ≡ bit_xor (when◌then◌else◌ (eqb x 1) poly 0) (c / 2)
+    by_bit zero h = refl
+    by_bit (suc zero) h = refl
+    by_bit (suc (suc x)) h = absurd (omega arith)
 
 extra_linear : (x y : ℕ) → x < 2 → y < 2 → extra (bit_xor x y) ≡ bit_xor (extra x) (extra y)
 unfolding extra when◌then◌else◌
-extra_linear x y hx hy =
-    bit_ind (λ (x : ℕ). extra (bit_xor x y) ≡ bit_xor (extra x) (extra y)) refl
-    (bit_ind (λ (y : ℕ). extra (bit_xor 1 y) ≡ bit_xor (extra 1) (extra y)) refl refl y hy) x hx
+extra_linear zero zero h k = refl
+extra_linear zero (suc zero) h k = refl
+extra_linear (suc zero) zero h k = refl
+extra_linear (suc zero) (suc zero) h k = refl
+extra_linear zero (suc (suc y)) h k = absurd (omega arith)
+extra_linear (suc zero) (suc (suc y)) h k = absurd (omega arith)
+extra_linear (suc (suc x)) y h k = absurd (omega arith)
+
+-- four numbers, paired anew
+xor_swap : (p q x y : ℕ) → bit_xor (bit_xor p q) (bit_xor x y) ≡ bit_xor (bit_xor p x) (bit_xor q y)
+xor_swap p q x y =
+    xor_assoc p q (bit_xor x y)
+    ∙ ap (bit_xor p) (sym (xor_assoc q x y) ∙ ap (λ (n : ℕ). bit_xor n y) (xor_comm q x) ∙ xor_assoc x q y)
+    ∙ sym (xor_assoc p x (bit_xor q y))
 
 pub step_linear : (a b : ℕ) → bit_step (bit_xor a b) ≡ bit_xor (bit_step a) (bit_step b)
 step_linear a b =
     step_as (bit_xor a b)
     ∙ ap₂ bit_xor (ap extra (xor_mod a b 1) ∙ extra_linear (a % 2) (b % 2) (mod-lt a (lit< tt)) (mod-lt b (lit< tt))) (xor_shr a b 1)
-    ∙ regroup (extra (a % 2)) (extra (b % 2)) (a / 2) (b / 2)
+    ∙ xor_swap (extra (a % 2)) (extra (b % 2)) (a / 2) (b / 2)
     ∙ ap₂ bit_xor (sym (step_as a)) (sym (step_as b))
-  where
-    regroup : (p q x y : ℕ) → bit_xor (bit_xor p q) (bit_xor x y) ≡ bit_xor (bit_xor p x) (bit_xor q y)
-    regroup p q x y = xor_assoc p q (bit_xor x y) ∙ ap (bit_xor p) (xor_left_comm q x y) ∙ sym (xor_assoc p x (bit_xor q y))
 
 pub steps_linear : (n a b : ℕ) → steps n (bit_xor a b) ≡ bit_xor (steps n a) (steps n b)
 unfolding steps
@@ -98,7 +109,7 @@ steps_byte n c v =
     ∙ steps_linear 8 (bit_xor c (v % 256)) (v / 256 * 2 ^ 8)
     ∙ ap (bit_xor (steps 8 (bit_xor c (v % 256)))) (steps_high 8 (v / 256)))
 
-steps_none : (c : ℕ) → steps 0 c ≡ c
+pub steps_none : (c : ℕ) → steps 0 c ≡ c
 unfolding steps
 steps_none c = refl
 

@@ -1,109 +1,79 @@
 // CRC-32, the 32-bit frame check sequence of ITU-T V.42, eight bytes at a time by eight tables.
-// A constant array is copied to the stack where it becomes a value, so the table is taken once (`slices`), lent and passed on.
 #![tactic(auto)]
 
-ghost use Rattle.std.specs.Prelude.{◌≡◌, true, [], ◌∷◌, ◌<◌, drop};
-ghost use Rattle.num.specs.Number.{le_bytes};
+ghost use Rattle.std.specs.Prelude.{◌≡◌, [], ◌∷◌, ◌<◌, fold};
 ghost use Rattle.crc32.specs.V42.{crc_of, update_of, finalize_of};
-ghost use Rattle.crc32.specs.Table.{entry_of, is_table};
+ghost use Rattle.crc32.specs.Table.{entry_of};
 
 pub const INITIAL: u32 = 0xFFFF_FFFF;
 
-// The register after a byte and `slice` zero bytes, from a register of zeros.
-fn entry(table: &[[u32; 256]; 8], slice: usize, byte: u64) -> u32
-    requires { (is_table table.now ≡ true) × (slice < 8) × (byte < 256) }
+// The register after a byte and `slice` zero bytes, from a register of zeros: the one place that reads the tables.
+#[tactic(auto, using(crate::proofs::Table::entry_rule))]
+fn entry(slice: usize, byte: u8) -> u32
+    requires { slice < 8 }
     ensures { result ≡ entry_of slice byte }
 {
-    let b = byte as usize;
-    table[slice][b]
+    SLICES[slice][usize::from(byte)]
 }
 
-// The register after the eight bytes of a word, each byte by its own table.
-fn update_word(table: &[[u32; 256]; 8], state: u32, bytes: u64) -> u32
-    requires { is_table table.now ≡ true }
-    ensures { result ≡ update_of state (le_bytes 8 bytes) }
+// The register after eight bytes, each by its own table.
+#[tactic(auto, using(crate::proofs::Table::eight_rule))]
+fn update_eight(state: u32, bytes: &[u8; 8]) -> u32
+    ensures { result ≡ update_of state bytes.now }
 {
-    let word = bytes ^ (state as u64);
-    let w1 = word / 256;
-    let w2 = w1 / 256;
-    let w3 = w2 / 256;
-    let w4 = w3 / 256;
-    let w5 = w4 / 256;
-    let w6 = w5 / 256;
-    let w7 = w6 / 256;
-    let high = entry(table, 3, w4 % 256)
-        ^ (entry(table, 2, w5 % 256) ^ (entry(table, 1, w6 % 256) ^ entry(table, 0, w7 % 256)));
-    entry(table, 7, word % 256)
-        ^ (entry(table, 6, w1 % 256)
-            ^ (entry(table, 5, w2 % 256) ^ (entry(table, 4, w3 % 256) ^ high)))
+    let word = u64::from_le_bytes(*bytes) ^ u64::from(state);
+    let [a, b, c, d, e, f, g, h] = word.to_le_bytes();
+    entry(7, a)
+        ^ entry(6, b)
+        ^ entry(5, c)
+        ^ entry(4, d)
+        ^ entry(3, e)
+        ^ entry(2, f)
+        ^ entry(1, g)
+        ^ entry(0, h)
 }
 
 // The register after one byte.
-fn update_byte(table: &[[u32; 256]; 8], state: u32, byte: u8) -> u32
-    requires { is_table table.now ≡ true }
+#[tactic(auto, using(crate::proofs::Table::one_rule))]
+fn update_byte(state: u32, byte: u8) -> u32
     ensures { result ≡ update_of state (byte ∷ []) }
 {
-    let x = (state as u64) ^ num::widen(byte);
-    let high = (x / 256 % 0x1_0000_0000) as u32;
-    entry(table, 0, x % 256) ^ high
+    let [low, ..] = state.to_le_bytes();
+    entry(0, low ^ byte) ^ (state >> 8)
 }
 
-// The register after the bytes from `at` on, one at a time: the last zero to seven.
-fn update_rest(table: &[[u32; 256]; 8], state: u32, data: &[u8], at: usize) -> u32
-    requires { is_table table.now ≡ true }
-    ensures { result ≡ update_of state (drop at «data».now) }
+// The register after the bytes, eight at a time, then one at a time.
+fn update_chunks(state: u32, chunks: &[[u8; 8]]) -> u32
+    ensures { result ≡ fold update_of state chunks.now }
 {
-    let mut c = state;
-    let mut i = at;
-    while i < data.len() {
-        c = update_byte(table, c, data[i]);
-        i += 1;
-    }
-    c
+    chunks.iter().fold(state, update_eight)
 }
 
-// The register after the bytes, by `SLICES`, which the caller lends.
-pub fn update_with(table: &[[u32; 256]; 8], state: u32, data: &[u8]) -> u32
-    requires { is_table table.now ≡ true }
-    ensures { result ≡ update_of state «data».now }
+fn update_rest(state: u32, bytes: &[u8]) -> u32
+    ensures { result ≡ fold (λ state byte. update_of state (byte ∷ [])) state bytes.now }
 {
-    let mut c = state;
-    let mut i = 0;
-    while 8 <= data.len() - i {
-        c = update_word(table, c, num::u64_at(data, i));
-        i += 8;
-    }
-    update_rest(table, c, data, i)
+    bytes
+        .iter()
+        .fold(state, |state, byte| update_byte(state, *byte))
 }
 
-// The CRC-32 of the bytes, by `SLICES`, which the caller lends: for many short inputs.
-pub fn crc32_with(table: &[[u32; 256]; 8], data: &[u8]) -> u32
-    requires { is_table table.now ≡ true }
-    ensures { result ≡ crc_of «data».now }
-{
-    finalize(update_with(table, INITIAL, data))
-}
-
-// The tables by value, with their rule at hand: whoever has them lends them to everything below.
-pub fn slices() -> [[u32; 256]; 8]
-    ensures { is_table result ≡ true }
-{
-    SLICES
-}
-
+// The register after the bytes, which may come in several parts.
+#[tactic(auto, using(crate::proofs::Chunks::all_taken))]
 pub fn update(state: u32, data: &[u8]) -> u32
     ensures { result ≡ update_of state «data».now }
 {
-    let table = slices();
-    update_with(&table, state, data)
+    let (chunks, rest) = data.as_chunks::<8>();
+    update_rest(update_chunks(state, chunks), rest)
 }
 
+#[tactic(auto, using(crate::proofs::Division::finalize_sub))]
 pub fn finalize(state: u32) -> u32
     ensures { result ≡ finalize_of state }
 {
     !state
 }
 
+#[tactic(auto, using(crate::proofs::Division::crc_update))]
 pub fn crc32(data: &[u8]) -> u32
     ensures { result ≡ crc_of «data».now }
 {
@@ -111,7 +81,7 @@ pub fn crc32(data: &[u8]) -> u32
 }
 
 // The entry at [slice][byte] is the register after that byte and `slice` zero bytes, from a register of zeros.
-pub const SLICES: [[u32; 256]; 8] = [
+const SLICES: [[u32; 256]; 8] = [
     [
         0x0000_0000,
         0x7707_3096,

@@ -125,3 +125,8 @@ encoding_of t = encoding_with (address_width_of (arena_len_of (encoding_with 4 t
 unfoldable pub encoding_defs : ℕ
 unfolding magic scan_magic width_of value_width_of key_header_len_of version_len_of arena_len_of buckets_of arena_start_of scan_len_of section_len_of tombstone_of address_width_of encoding_with encoding_of when◌then◌else◌ either
 encoding_defs = 0
+
+-- and `unfolding length_defs` those of a section's parts alone
+unfoldable pub length_defs : ℕ
+unfolding buckets_of arena_start_of scan_len_of section_len_of when◌then◌else◌
+length_defs = 0

@@ -18,7 +18,7 @@ ghost use Rattle.encoding.specs.Encoding.{
 };
 
 // What a builder has counted of its entries.
-#[derive(Clone, Copy)]
+#[derive(Clone, Copy, Debug, PartialEq, Eq)]
 pub struct Totals {
     pub keys: u64,
     pub versions: u64,
@@ -32,6 +32,7 @@ pub struct Totals {
 }
 
 // The least width of 1, 2, 4 and 8 bytes that holds every number up to `max`.
+#[tactic(auto, unfolding(crate::specs::Encoding::width_of, num::specs::Choice::choice_defs))]
 pub fn width(max: u64) -> usize
     ensures { result ≡ width_of max }
 {
@@ -55,6 +56,7 @@ fn value_width(max: u64) -> usize
 }
 
 // The width of addresses and value offsets.
+#[tactic(auto, unfolding(crate::specs::Encoding::address_width_of, num::specs::Choice::choice_defs))]
 fn address_width(arena: usize, last_value_offset: u64) -> usize
     ensures { result ≡ address_width_of arena last_value_offset }
 {
@@ -67,8 +69,9 @@ fn address_width(arena: usize, last_value_offset: u64) -> usize
     4
 }
 
-// The widths in which a section stores its numbers, and whether each version has its value's CRC-32.
-#[derive(Clone, Copy)]
+// The widths in which a section stores its numbers, and whether each version has its value's CRC-32. Their rule,
+// `Widths`, is a clause and no part of the type: C callers keep an opened record's numbers and hand them back.
+#[derive(Clone, Copy, Debug, PartialEq, Eq)]
 pub struct Encoding {
     pub address: usize,
     pub key: usize,
@@ -117,6 +120,7 @@ impl Encoding {
     }
 
     // The bytes of a key record before its suffix.
+    #[tactic(auto, unfolding(crate::specs::Encoding::key_header_len_of), using(crate::proofs::Widths::widths_le))]
     pub fn key_header(self) -> usize
         requires { Widths self }
         ensures { result ≡ key_header_len_of self }
@@ -125,6 +129,7 @@ impl Encoding {
     }
 
     // The bytes of a version.
+    #[tactic(auto, unfolding(crate::specs::Encoding::encoding_defs), using(crate::proofs::Widths::widths_le))]
     pub fn version(self) -> usize
         requires { Widths self }
         ensures { result ≡ version_len_of self }
@@ -136,6 +141,7 @@ impl Encoding {
         }
     }
 
+    #[tactic(auto, unfolding(crate::specs::Encoding::arena_len_of), using(crate::proofs::Lengths::arena_len_le))]
     pub fn arena_len(self, t: Totals) -> usize
         requires widths { Widths self }
         requires bounded { Bounded t }
@@ -147,6 +153,7 @@ impl Encoding {
     }
 
     // The bytes of the scan part with its length, none without a prefix.
+    #[tactic(auto, unfolding(crate::specs::Encoding::length_defs))]
     fn scan_len(self, t: Totals, prefix: usize) -> usize
         requires widths { Widths self }
         requires bounded { Bounded t }
@@ -159,6 +166,7 @@ impl Encoding {
         }
     }
 
+    #[tactic(auto, unfolding(crate::specs::Encoding::length_defs))]
     pub fn section_len(self, t: Totals, prefix: usize) -> usize
         requires widths { Widths self }
         requires bounded { Bounded t }
@@ -175,6 +183,7 @@ impl Encoding {
     }
 
     // The bit of a stored value length that marks a tombstone.
+    #[tactic(auto, unfolding(crate::specs::Encoding::tombstone_of), using(crate::proofs::Widths::widths_le))]
     pub fn tombstone(self) -> u64
         requires { Widths self }
         ensures { result ≡ tombstone_of self }

@@ -3,21 +3,19 @@
 
 ghost use Rattle.std.specs.Prelude.{◌≡◌, length};
 ghost use Rattle.crc32.specs.V42.{crc_of};
-ghost use Rattle.builder.specs.Record.{size_of_section, sized_read, sized_number};
-ghost use Rattle.builder.specs.Add.{add_of, added_read, added_number, added_area};
-ghost use Rattle.header.specs.Header.{header_number};
+ghost use Rattle.builder.specs.Record.{size_of_section};
+ghost use Rattle.builder.specs.Add.{add_of, added_area};
+ghost use Rattle.refusal.specs.Refusal.{answer_number};
 ghost use Rattle.opening.specs.Open.{open_of};
-ghost use Rattle.packing.specs.Packing.{open_packed_of, packed_read, packed_number, packed_written};
-ghost use Rattle.locator.specs.Locator.{located_number};
+ghost use Rattle.packing.specs.Packing.{open_packed_of, packed_read, packed_written};
 ghost use Rattle.lookup.specs.Value.{value_number, value_part};
 ghost use Rattle.writer.specs.Write.{write_of, section_written};
-ghost use Rattle.writing.specs.Wrote.{wrote_read, wrote_number};
 ghost use Rattle.numbers.specs.BuilderNumbers.{builder_in};
 ghost use Rattle.opens.specs.Written.{record_written, packed_record_written, packed_len_written};
 ghost use Rattle.looks.specs.Looked.{lookup_of, answer_written};
 ghost use Rattle.builds.specs.Built.{offer_from, builder_written, size_written, section_len_written};
-ghost use Rattle.blocks.specs.Blocks.{fill_of, filled_read, filled_number, filled_count, filled_places, find_of, found_place};
-ghost use Rattle.spans.specs.Span.{pairs_written, spanned_read, spanned_number};
+ghost use Rattle.blocks.specs.Blocks.{fill_of, filled_read, filled_count, filled_places, find_of, found_place};
+ghost use Rattle.spans.specs.Span.{pairs_written, spanned_read};
 ghost use Rattle.scans.specs.Spans.{span_of_numbers, found_written};
 
 use blocks::BlockRecord;
@@ -27,7 +25,7 @@ use blocks::BlockRecord;
 pub extern "C" fn kiban_crc32(data: &[u8]) -> u32
     ensures { result ≡ crc_of «data».now }
 {
-    checksum::crc32(data)
+    crc32::crc32(data)
 }
 
 // Opens a section beside its backing data and its block list, and writes the opened record: 0, or the number of the first
@@ -40,7 +38,7 @@ pub extern "C" fn kiban_open(
     scratch: &mut [u8],
     out: &mut [u64; 16],
 ) -> u64
-    ensures { (result ≡ header_number (open_of section.now «data».now blocks.now (length scratch.old)))
+    ensures { (result ≡ answer_number (open_of section.now «data».now blocks.now (length scratch.old)))
         × (out.new ≡ record_written (open_of section.now «data».now blocks.now (length scratch.old)) out.old)
         × (length scratch.new ≡ length scratch.old) }
 {
@@ -60,7 +58,7 @@ pub extern "C" fn kiban_open_packed(
     out: &mut [u64; 16],
     len: &mut u64,
 ) -> u64
-    ensures { (result ≡ packed_number (packed_read (open_packed_of section.now «data».now blocks.now (length scratch.old) (length output.old))))
+    ensures { (result ≡ answer_number (packed_read (open_packed_of section.now «data».now blocks.now (length scratch.old) (length output.old))))
         × (output.new ≡ packed_written (open_packed_of section.now «data».now blocks.now (length scratch.old) (length output.old)) output.old)
         × (out.new ≡ packed_record_written (open_packed_of section.now «data».now blocks.now (length scratch.old) (length output.old)) out.old)
         × (len.new ≡ packed_len_written (open_packed_of section.now «data».now blocks.now (length scratch.old) (length output.old)) len.old)
@@ -79,7 +77,7 @@ pub extern "C" fn kiban_lookup(
     limit: u64,
     answer: &mut [u64; 6],
 ) -> u64
-    ensures { (result ≡ located_number (lookup_of section.now numbers.now key.now limit))
+    ensures { (result ≡ answer_number (lookup_of section.now numbers.now key.now limit))
         × (answer.new ≡ answer_written (lookup_of section.now numbers.now key.now limit) answer.old) }
 {
     looks::lookup(section, numbers, key, limit, answer)
@@ -98,7 +96,7 @@ pub extern "C" fn kiban_span(
     pairs: &mut [u64],
     found: &mut u64,
 ) -> u64
-    ensures { (result ≡ spanned_number (spanned_read (span_of_numbers section.now numbers.now first count limit (length pairs.old))))
+    ensures { (result ≡ answer_number (spanned_read (span_of_numbers section.now numbers.now first count limit (length pairs.old))))
         × (pairs.new ≡ pairs_written (span_of_numbers section.now numbers.now first count limit (length pairs.old)) pairs.old)
         × (found.new ≡ found_written (span_of_numbers section.now numbers.now first count limit (length pairs.old)) found.old) }
 {
@@ -133,7 +131,7 @@ pub extern "C" fn kiban_add(
     new_key: u64,
     offset: u64,
 ) -> u64
-    ensures { (result ≡ added_number (added_read (add_of area.old (builder_in builder.old) (offer_from tombstone key.now value.now sequence new_key offset))))
+    ensures { (result ≡ answer_number (add_of area.old (builder_in builder.old) (offer_from tombstone key.now value.now sequence new_key offset)))
         × (area.new ≡ added_area (add_of area.old (builder_in builder.old) (offer_from tombstone key.now value.now sequence new_key offset)) area.old)
         × (builder.new ≡ builder_written (add_of area.old (builder_in builder.old) (offer_from tombstone key.now value.now sequence new_key offset)) builder.old) }
 {
@@ -145,7 +143,7 @@ pub extern "C" fn kiban_add(
 // Tells how many bytes the section of a builder will have with a scan prefix: 0, or 37, which leaves the size as it was.
 #[unsafe(no_mangle)]
 pub extern "C" fn kiban_size(builder: &[u64; 16], prefix: u64, size: &mut u64) -> u64
-    ensures { (result ≡ sized_number (sized_read (size_of_section (builder_in builder.now) prefix)))
+    ensures { (result ≡ answer_number (size_of_section (builder_in builder.now) prefix))
         × (size.new ≡ size_written (size_of_section (builder_in builder.now) prefix) size.old) }
 {
     builds::size(builder, prefix, size)
@@ -163,7 +161,7 @@ pub extern "C" fn kiban_write(
     output: &mut [u8],
     len: &mut u64,
 ) -> u64
-    ensures { (result ≡ wrote_number (wrote_read (write_of area.now (builder_in builder.now) prefix (length scratch64.old) (length scratch32.old) (length output.old))))
+    ensures { (result ≡ answer_number (write_of area.now (builder_in builder.now) prefix (length scratch64.old) (length scratch32.old) (length output.old)))
         × (output.new ≡ section_written (write_of area.now (builder_in builder.now) prefix (length scratch64.old) (length scratch32.old) (length output.old)) output.old)
         × (len.new ≡ section_len_written (write_of area.now (builder_in builder.now) prefix (length scratch64.old) (length scratch32.old) (length output.old)) len.old)
         × (length scratch64.new ≡ length scratch64.old)
@@ -181,7 +179,7 @@ pub extern "C" fn kiban_fill_blocks(
     records: &mut [BlockRecord],
     count: &mut u64,
 ) -> u64
-    ensures { (result ≡ filled_number (filled_read (fill_of «data».now blocks.now (length records.old))))
+    ensures { (result ≡ answer_number (filled_read (fill_of «data».now blocks.now (length records.old))))
         × (records.new ≡ filled_places (fill_of «data».now blocks.now (length records.old)) records.old)
         × (count.new ≡ filled_count (filled_read (fill_of «data».now blocks.now (length records.old))) count.old) }
 {

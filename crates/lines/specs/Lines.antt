@@ -1,58 +1,37 @@
 -- The lines that the program `keys` prints (document 01, "One store, worked through"), as the bytes of their ASCII.
-use Rattle.std.specs.Prelude.{ℕ, zero, suc, ◌+◌, ◌/◌, ◌%◌, List, [], ◌∷◌, ◌++◌, true, false, ltb}
-use Rattle.num.specs.Choice.{when◌then◌else◌}
+use Rattle.std.specs.Prelude.{ℕ, ◌+◌, ◌/◌, ◌%◌, List, [], ◌∷◌, ◌++◌, codes, decimal, false}
+use Rattle.std.specs.Fmt.{digit_glyph, digits}
 use Rattle.sstable.specs.declared.Kind.{Kind}
 use Rattle.sstable.specs.declared.Kind.TheVariants.{Put, Tombstone}
 use Rattle.block.specs.Walk.{Entry}
 
-unfoldable pub space : List ℕ
-space = 32 ∷ []
-
-unfoldable pub newline : List ℕ
-newline = 10 ∷ []
-
--- the digit of a number below 16: `0` to `9`, then `a` to `f`
-unfoldable pub hex_digit : ℕ → ℕ
-hex_digit d = when ltb d 10 then 48 + d else 87 + d
-
 -- two digits for each byte
-unfoldable pub hex_of : List ℕ → List ℕ
+abbrev pub hex_of : List ℕ → List ℕ
 hex_of [] = []
-hex_of (b ∷ bs) = hex_digit (b / 16) ∷ hex_digit (b % 16) ∷ hex_of bs
+hex_of (b ∷ bs) = digit_glyph false (b / 16) ∷ digit_glyph false (b % 16) ∷ hex_of bs
 
 -- a key in hexadecimal; an empty one is `-`
-unfoldable pub key_text : List ℕ → List ℕ
-key_text [] = 45 ∷ []
+abbrev pub key_text : List ℕ → List ℕ
+key_text [] = codes "-"
 key_text (b ∷ bs) = hex_of (b ∷ bs)
 
--- the decimal digits of a number, at most as many as the first number says
-unfoldable pub decimal_from : ℕ → ℕ → List ℕ
-decimal_from zero n = []
-decimal_from (suc f) n = elim (ltb n 10) [ true ↦ (48 + n) ∷ [] | false ↦ decimal_from f (n / 10) ++ (48 + n % 10) ∷ [] ]
-
--- a number in decimal: it has no more digits than one more than itself
-unfoldable pub decimal_of : ℕ → List ℕ
-decimal_of n = decimal_from (suc n) n
-
--- a number behind a label
-unfoldable pub labelled : List ℕ → ℕ → List ℕ
-labelled label n = label ++ decimal_of n
+-- a number in decimal behind a label
+abbrev pub labelled : List ℕ → ℕ → List ℕ
+labelled label n = label ++ decimal n
 
 -- a kind's letter, P or T, behind a space
-unfoldable pub kind_text : Kind → List ℕ
-kind_text Put = 32 ∷ 80 ∷ []
-kind_text Tombstone = 32 ∷ 84 ∷ []
+abbrev pub kind_text : Kind → List ℕ
+kind_text Put = codes " P"
+kind_text Tombstone = codes " T"
 
 -- `key seq kind offset length`
 unfoldable pub names_line : List ℕ
-names_line =
-    107 ∷ 101 ∷ 121 ∷ 32 ∷ 115 ∷ 101 ∷ 113 ∷ 32 ∷ 107 ∷ 105 ∷ 110 ∷ 100 ∷ 32 ∷
-    111 ∷ 102 ∷ 102 ∷ 115 ∷ 101 ∷ 116 ∷ 32 ∷ 108 ∷ 101 ∷ 110 ∷ 103 ∷ 116 ∷ 104 ∷ 10 ∷ []
+names_line = codes "key seq kind offset length\n"
 
 -- behind a key: its sequence, its kind, and the offset and the length of its value
-unfoldable pub numbers_text : ℕ → Kind → ℕ → ℕ → List ℕ
+abbrev pub numbers_text : ℕ → Kind → ℕ → ℕ → List ℕ
 numbers_text seq kind offset size =
-    labelled space seq ++ kind_text kind ++ labelled space offset ++ labelled space size ++ newline
+    labelled (codes " ") seq ++ (kind_text kind ++ (labelled (codes " ") offset ++ (labelled (codes " ") size ++ codes "\n")))
 
 -- the line of a record
 unfoldable pub record_line : Entry → List ℕ
@@ -75,20 +54,17 @@ mean_of sectionLen keys = sectionLen / keys
 -- the line of totals: `keys `, ` live ` and ` mean `, each before its number
 unfoldable pub totals_line : ℕ → ℕ → ℕ → List ℕ
 totals_line keys live mean =
-    labelled (107 ∷ 101 ∷ 121 ∷ 115 ∷ 32 ∷ []) keys
-    ++ labelled (32 ∷ 108 ∷ 105 ∷ 118 ∷ 101 ∷ 32 ∷ []) live
-    ++ labelled (32 ∷ 109 ∷ 101 ∷ 97 ∷ 110 ∷ 32 ∷ []) mean
-    ++ newline
+    labelled (codes "keys ") keys ++ (labelled (codes " live ") live ++ (labelled (codes " mean ") mean ++ codes "\n"))
 
 -- the line of a refusal: `refused ` and the number
 unfoldable pub refused_line : ℕ → List ℕ
-refused_line n = labelled (114 ∷ 101 ∷ 102 ∷ 117 ∷ 115 ∷ 101 ∷ 100 ∷ 32 ∷ []) n ++ newline
+refused_line n = labelled (codes "refused ") n ++ codes "\n"
 
 -- `unreadable`
 unfoldable pub unreadable_line : List ℕ
-unreadable_line = 117 ∷ 110 ∷ 114 ∷ 101 ∷ 97 ∷ 100 ∷ 97 ∷ 98 ∷ 108 ∷ 101 ∷ 10 ∷ []
+unreadable_line = codes "unreadable\n"
 
 -- for proofs alone: `unfolding line_defs` opens the definitions of this file
 unfoldable pub line_defs : ℕ
-unfolding space newline hex_digit hex_of key_text decimal_from decimal_of labelled kind_text names_line numbers_text record_line live_one live_of totals_line refused_line unreadable_line when◌then◌else◌
+unfolding digits names_line record_line live_one live_of totals_line refused_line unreadable_line
 line_defs = 0

@@ -1,73 +1,68 @@
-// The lines that the program `keys` prints, each written at the front of a lent buffer.
+// The lines that the program `keys` prints, each written at the front of a lent buffer. Not as `Display`: of what
+// `println!` writes to the standard output no contract speaks, and a line in a buffer is proved, and printed by one
+// call.
 #![tactic(auto)]
 
-ghost use Rattle.std.specs.Prelude.{◌≡◌, ◌+◌, ◌*◌, ◌<◌, ◌≤◌, length};
-ghost use Rattle.lines.specs.Lines.{hex_digit, hex_of, key_text, decimal_of, labelled, kind_text, names_line, numbers_text, record_line, live_one, mean_of, totals_line, refused_line, unreadable_line};
+ghost use Rattle.std.specs.Prelude.{◌≡◌, ◌+◌, ◌*◌, ◌<◌, ◌≤◌, false, length};
+ghost use Rattle.std.specs.Fmt.{digit_glyph};
+ghost use Rattle.lines.specs.Lines.{key_text, labelled, kind_text, names_line, record_line, live_one, mean_of, totals_line, refused_line, unreadable_line};
 ghost use Rattle.lines.specs.Wrote.{Wrote};
 
+use itoa::Buffer;
 use sstable::Kind;
 
-fn hex_digit(d: u8) -> u8
-    requires { d < 16 }
-    ensures { result ≡ hex_digit d }
-{
-    if d < 10 { 48 + d } else { 87 + d }
-}
-
-fn put_hex(out: &mut [u8], at: usize, key: &[u8]) -> usize
-    requires { at + 2 * length key.now ≤ length out.old }
-    ensures { Wrote out.old out.new at (hex_of key.now) result }
-{
-    let mut to = at;
-    let mut i = 0;
-    while i < key.len() {
-        let byte = key[i];
-        out[to] = hex_digit(byte / 16);
-        out[to + 1] = hex_digit(byte % 16);
-        to += 2;
-        i += 1;
-    }
-    to
-}
-
+// Buffer and place stay two parameters: of a struct over a buffer each clause would have to say that it is still the
+// same buffer.
+#[tactic(auto, using(crate::proofs::Parts::wrote_copied))]
 fn put(out: &mut [u8], at: usize, text: &[u8]) -> usize
     requires { at + length text.now ≤ length out.old }
     ensures { Wrote out.old out.new at text.now result }
 {
-    block::copy_key(text, 0, text.len(), out, at);
-    at + text.len()
+    let end = at + text.len();
+    out[at..end].copy_from_slice(text);
+    end
 }
 
+fn hex_digit(digit: u8) -> u8
+    requires { digit < 16 }
+    ensures { result ≡ digit_glyph false digit }
+{
+    if digit < 10 {
+        b'0' + digit
+    } else {
+        b'a' + (digit - 10)
+    }
+}
+
+#[tactic(auto, using(crate::proofs::Parts::wrote_nothing))]
 fn put_key(out: &mut [u8], at: usize, key: &[u8]) -> usize
     requires { at + 2 * length key.now + 1 ≤ length out.old }
-    ensures { Wrote out.old out.new at (key_text key.now) result }
+    ensures written { Wrote out.old out.new at (key_text key.now) result }
+    ensures short { result ≤ at + 2 * length key.now + 1 }
 {
-    if key.len() == 0 {
+    if key.is_empty() {
         return put(out, at, b"-");
     }
-    put_hex(out, at, key)
-}
-
-fn put_decimal(out: &mut [u8], at: usize, n: u64) -> usize
-    requires { at + 20 ≤ length out.old }
-    ensures { Wrote out.old out.new at (decimal_of n) result × (result ≤ at + 20) }
-{
-    let mut digits = [0u8; 20];
-    let count = io::decimal(n, &mut digits);
-    put(out, at, &digits[0..count])
+    let mut end = at;
+    for &byte in key {
+        end = put(out, end, &[hex_digit(byte / 16), hex_digit(byte % 16)]);
+    }
+    end
 }
 
 fn put_labelled(out: &mut [u8], at: usize, label: &[u8], n: u64) -> usize
     requires { at + length label.now + 20 ≤ length out.old }
-    ensures { Wrote out.old out.new at (labelled label.now n) result × (result ≤ at + length label.now + 20) }
+    ensures written { Wrote out.old out.new at (labelled label.now n) result }
+    ensures short { result ≤ at + length label.now + 20 }
 {
     let number_at = put(out, at, label);
-    put_decimal(out, number_at, n)
+    put(out, number_at, Buffer::new().format(n).as_bytes())
 }
 
 fn put_kind(out: &mut [u8], at: usize, kind: Kind) -> usize
     requires { at + 2 ≤ length out.old }
-    ensures { Wrote out.old out.new at (kind_text kind) result × (result ≡ at + 2) }
+    ensures written { Wrote out.old out.new at (kind_text kind) result }
+    ensures short { result ≡ at + 2 }
 {
     match kind {
         Kind::Put => put(out, at, b" P"),
@@ -76,23 +71,12 @@ fn put_kind(out: &mut [u8], at: usize, kind: Kind) -> usize
 }
 
 // The line of names, written at the front.
+#[tactic(auto, unfolding(crate::specs::Lines::line_defs))]
 pub fn names_line(out: &mut [u8]) -> usize
     requires { 64 ≤ length out.old }
     ensures { Wrote out.old out.new 0 names_line result }
 {
     put(out, 0, b"key seq kind offset length\n")
-}
-
-// Behind the key: sequence, kind, offset and length, and the line's end.
-fn put_numbers(out: &mut [u8], at: usize, seq: u64, kind: Kind, offset: u64, size: u64) -> usize
-    requires { at + 66 ≤ length out.old }
-    ensures { Wrote out.old out.new at (numbers_text seq kind offset size) result }
-{
-    let kind_at = put_labelled(out, at, b" ", seq);
-    let offset_at = put_kind(out, kind_at, kind);
-    let size_at = put_labelled(out, offset_at, b" ", offset);
-    let end = put_labelled(out, size_at, b" ", size);
-    put(out, end, b"\n")
 }
 
 // The line of a record, written at the front.
@@ -107,11 +91,16 @@ pub fn record_line(
     requires { 2 * length key.now + 67 ≤ length out.old }
     ensures { Wrote out.old out.new 0 (record_line (record { key = key.now; seq = seq; kind = kind; place = offset; size = size })) result }
 {
-    let at = put_key(out, 0, key);
-    put_numbers(out, at, seq, kind, offset, size)
+    let seq_at = put_key(out, 0, key);
+    let kind_at = put_labelled(out, seq_at, b" ", seq);
+    let offset_at = put_kind(out, kind_at, kind);
+    let size_at = put_labelled(out, offset_at, b" ", offset);
+    let end = put_labelled(out, size_at, b" ", size);
+    put(out, end, b"\n")
 }
 
 // What a record of this kind adds to the total `live`.
+#[tactic(auto, unfolding(crate::specs::Lines::line_defs))]
 pub fn live_one(kind: Kind) -> u64
     ensures { (result ≡ live_one kind) × (result ≤ 1) }
 {
@@ -150,6 +139,7 @@ pub fn refused_line(out: &mut [u8], number: u64) -> usize
 }
 
 // The line of files that cannot be read, written at the front.
+#[tactic(auto, unfolding(crate::specs::Lines::line_defs))]
 pub fn unreadable_line(out: &mut [u8]) -> usize
     requires { 64 ≤ length out.old }
     ensures { Wrote out.old out.new 0 unreadable_line result }

@@ -1,14 +1,14 @@
 -- A block of the data, where its entries end, and the key of a record of it in the key buffer.
 -- Assumes nothing.
-use mathlib.Core.Path.{◌≡◌, sym, ap, ◌∙◌}
+use mathlib.Core.Path.{◌≡◌, ap, ◌∙◌}
 use mathlib.Core.List.{List}
 use Prim.Native.Nat.{ℕ, ◌+◌, ◌-◌, ◌<◌, ◌≤◌}
 use native.Mathlib.Omega.{arith}
-use lib.ListN.{length, take, drop, length-take, length-drop, drop_of_length-le}
-use lib.Seq.{sets, take_all, take-nil, length-take-le}
+use lib.ListN.{length, take, drop, length-take, length-drop}
+use lib.Seq.{sets, length-take-le}
 use Rattle.num.proofs.Lists.{part_length}
 use Rattle.block.specs.declared.Record.{Record}
-use Rattle.block.specs.declared.Stepped.TheVariants.{Met}
+use Rattle.std.proofs.Common.{Ok}
 use Rattle.block.specs.Record.{record_at}
 use Rattle.block.specs.Verify.{entries_end_in}
 use Rattle.block.specs.Walk.{entry_of}
@@ -18,21 +18,6 @@ use Rattle.opening.specs.Open.{block_bytes}
 -- ---- the bytes of a block
 
 module _ («data» : List ℕ) (offset len : ℕ) where
-  pub block_none : length «data» < offset → take (length «data» - length «data») (drop (length «data») «data») ≡ block_bytes «data» offset len
-  block_none h =
-      ap (take (length «data» - length «data»)) (drop_of_length-le «data» {i = length «data»} (omega arith))
-      ∙ take-nil (length «data» - length «data»)
-      ∙ sym (take-nil len)
-      ∙ ap (take len) (sym (drop_of_length-le «data» {i = offset} (omega arith)))
-
-  pub block_cut : length «data» - offset < len → take (length «data» - offset) (drop offset «data») ≡ block_bytes «data» offset len
-  block_cut h =
-      let n = length-drop offset «data» in
-      take_all (length «data» - offset) (drop offset «data») (omega arith) ∙ sym (take_all len (drop offset «data») (omega arith))
-
-  pub block_whole : take (offset + len - offset) (drop offset «data») ≡ block_bytes «data» offset len
-  block_whole = let e : offset + len - offset ≡ len = omega arith in ap (λ (n : ℕ). take n (drop offset «data»)) e
-
   pub block_length : length (block_bytes «data» offset len) ≤ length «data»
   block_length = omega (arith, length-take len (drop offset «data»), length-drop offset «data»)
 
@@ -46,7 +31,7 @@ end_inside : (raw : List ℕ) → entries_end_in raw ≤ length raw
 unfolding entries_end_in
 end_inside raw = omega arith
 
-module _ (raw : List ℕ) (pos keyLen : ℕ) (r : Record) (e : record_at raw (entries_end_in raw) pos keyLen ≡ Met r) where
+module _ (raw : List ℕ) (pos keyLen : ℕ) (r : Record) (e : record_at raw (entries_end_in raw) pos keyLen ≡ Ok r) where
   -- where a record that was met lies
   pub met_inside : RecordInside (length raw) pos keyLen r
   met_inside =

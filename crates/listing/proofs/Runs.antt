@@ -3,11 +3,12 @@
 use mathlib.Core.Path.{◌≡◌, refl, sym, ap, ◌∙◌}
 use mathlib.Core.List.{List, ◌++◌}
 use Prim.Native.Nat.{ℕ}
+use Rattle.std.proofs.Common.{Option}
 use Rattle.listing.specs.declared.text.Left.{Left}
 use Rattle.listing.specs.Internal.{text_left}
 use Rattle.listing.specs.Run.{lines_joined, Run, ended, went, RunsPrint}
 
-run_text : (sectionLen : ℕ) («data» blocks : List ℕ) {left : Left} {keys : List ℕ} {lines : List (List ℕ)}
+run_text : (sectionLen : ℕ) («data» blocks : List ℕ) {left : Option Left} {keys : List ℕ} {lines : List (List ℕ)}
     → Run sectionLen «data» blocks left keys lines → lines_joined lines ≡ text_left sectionLen «data» blocks left keys
 unfolding lines_joined text_left
 run_text sectionLen «data» blocks ended = refl

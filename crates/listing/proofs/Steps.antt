@@ -13,7 +13,8 @@ use borrow.Author.Tests.{leb-true, leb-false}
 use Rattle.sstable.specs.declared.Kind.{Kind}
 use Rattle.sstable.specs.declared.Kind.TheVariants.{Put, Tombstone}
 use Rattle.block.specs.declared.Record.{Record}
-use Rattle.block.specs.declared.Stepped.TheVariants.{Met, Stopped}
+use Rattle.std.proofs.Common.{Ok, Err}
+use Rattle.refusal.specs.declared.Refusal.{Refusal}
 use Rattle.block.specs.Record.{record_at}
 use Rattle.block.specs.Verify.{entries_end_in}
 use Rattle.block.specs.Walk.{Entry, no_entries, entry_then, walk_at, entry_of, records_of}
@@ -25,21 +26,21 @@ use Rattle.admission.specs.Blocks.{in_data, block_entries, store_entries}
 use Rattle.lines.specs.Lines.{record_line, live_one, live_of}
 use Rattle.listing.specs.declared.walk.Place.{Place}
 use Rattle.listing.specs.Listing.{record_lines}
-use Rattle.listing.specs.Internal.{entries_from, entries_left, place_steps, Room, Reached, Stepping}
+use Rattle.listing.specs.Internal.{entries_from, entries_left, place_steps, IsSmall, Reached, Stepping}
 use Rattle.listing.proofs.Blocks.{block_length, met_inside}
 
 -- ---- the walk of a block
 
 module _ (raw : List ℕ) (end pos : ℕ) (key : List ℕ) where
-  walk_ends : record_at raw end pos (length key) ≡ Stopped → (walk_at raw end pos key).entries ≡ []
+  walk_ends : (x : Refusal) → record_at raw end pos (length key) ≡ Err x → (walk_at raw end pos key).entries ≡ []
   unfolding no_entries
-  walk_ends e = go (leb end pos) refl
+  walk_ends x e = go (leb end pos) refl
     where
       go : (b : Bool) → leb end pos ≡ b → (walk_at raw end pos key).entries ≡ []
       go true t = ap (λ w. w.entries) (walk_done raw end pos key (leb-true end pos t))
-      go false t = ap (λ w. w.entries) (walk_stop raw end pos key (leb-false end pos t) (step_stop raw end pos key e))
+      go false t = ap (λ w. w.entries) (walk_stop raw end pos key (leb-false end pos t) (step_stop raw end pos key x e))
 
-  walk_meets : (r : Record) → record_at raw end pos (length key) ≡ Met r
+  walk_meets : (r : Record) → record_at raw end pos (length key) ≡ Ok r
       → (walk_at raw end pos key).entries ≡ entry_of raw pos key r ∷ (walk_at raw end r.next (entry_of raw pos key r).key).entries
   unfolding entry_then
   walk_meets r e = ap (λ w. w.entries) (walk_more raw end pos key (entry_of raw pos key r) r.next (step_met raw end pos key r e))
@@ -80,7 +81,7 @@ unfolding live_one
 live_few Put = omega arith
 live_few Tombstone = omega arith
 
-module _ («data» blocks : List ℕ) (p : Place) (keys out : List ℕ) (room : Room «data» blocks keys out) (reached : Reached «data» blocks p)
+module _ («data» blocks : List ℕ) (p : Place) (keys : List ℕ) (small : IsSmall «data» blocks) (room : 16384 ≤ length keys) (reached : Reached «data» blocks p)
     (here : p.pair + 1 < length blocks) where
   abbrev raw : List ℕ
   raw = raw_at «data» blocks p
@@ -93,7 +94,6 @@ module _ («data» blocks : List ℕ) (p : Place) (keys out : List ℕ) (room : 
 
   key_length : length key ≡ p.key_len
   key_length =
-      let r = room in
       let h = reached in
       length-take-le p.key_len keys (omega arith)
 
@@ -101,19 +101,18 @@ module _ («data» blocks : List ℕ) (p : Place) (keys out : List ℕ) (room : 
   abbrev next_pair : Place
   next_pair = record { pair = p.pair + 2; pos = 0; key_len = 0; live = p.live }
 
-  module _ (e : record_at raw (entries_end_in raw) p.pos p.key_len ≡ Stopped) where
+  module _ (x : Refusal) (e : record_at raw (entries_end_in raw) p.pos p.key_len ≡ Err x) where
     left_behind : entries_left «data» blocks p keys ≡ entries_left «data» blocks next_pair keys
     unfolding entries_left
     left_behind =
-        let stops : record_at raw (entries_end_in raw) p.pos (length key) ≡ Stopped = subst (λ (n : ℕ). record_at raw (entries_end_in raw) p.pos n ≡ Stopped) (sym key_length) e in
+        let stops : record_at raw (entries_end_in raw) p.pos (length key) ≡ Err x = subst (λ (n : ℕ). record_at raw (entries_end_in raw) p.pos n ≡ Err x) (sym key_length) e in
         left_here «data» blocks p keys here
-        ∙ ap (λ (l : List Entry). map (in_data (get_or blocks p.pair 0)) l ++ store_entries «data» (drop (p.pair + 2) blocks)) (walk_ends raw (entries_end_in raw) p.pos key stops)
+        ∙ ap (λ (l : List Entry). map (in_data (get_or blocks p.pair 0)) l ++ store_entries «data» (drop (p.pair + 2) blocks)) (walk_ends raw (entries_end_in raw) p.pos key x stops)
         ∙ sym (entries_start «data» (drop (p.pair + 2) blocks))
 
     pub pair_steps : Stepping «data» blocks p keys next_pair keys []
     unfolding place_steps
     pair_steps =
-        let r = room in
         let h = reached in
         let n = ap length left_behind in
         record {
@@ -124,7 +123,7 @@ module _ («data» blocks : List ℕ) (p : Place) (keys out : List ℕ) (room : 
         }
 
   -- a record that is met, with its key in the key buffer
-  module _ (r : Record) (e : record_at raw (entries_end_in raw) p.pos p.key_len ≡ Met r) (after : List ℕ)
+  module _ (r : Record) (e : record_at raw (entries_end_in raw) p.pos p.key_len ≡ Ok r) (after : List ℕ)
       (read : take r.key_len after ≡ (entry_of raw p.pos key r).key) where
     abbrev behind : Place
     behind = record { pair = p.pair; pos = r.next; key_len = r.key_len; live = p.live + live_one r.kind }
@@ -134,7 +133,7 @@ module _ («data» blocks : List ℕ) (p : Place) (keys out : List ℕ) (room : 
 
     left-met : entries_left «data» blocks p keys ≡ listed ∷ entries_left «data» blocks behind after
     left-met =
-        let meets : record_at raw (entries_end_in raw) p.pos (length key) ≡ Met r = subst (λ (n : ℕ). record_at raw (entries_end_in raw) p.pos n ≡ Met r) (sym key_length) e in
+        let meets : record_at raw (entries_end_in raw) p.pos (length key) ≡ Ok r = subst (λ (n : ℕ). record_at raw (entries_end_in raw) p.pos n ≡ Ok r) (sym key_length) e in
         let rest = store_entries «data» (drop (p.pair + 2) blocks) in
         left_here «data» blocks p keys here
         ∙ ap (λ (l : List Entry). map (in_data offset) l ++ rest) (walk_meets raw (entries_end_in raw) p.pos key r meets)
@@ -144,7 +143,6 @@ module _ («data» blocks : List ℕ) (p : Place) (keys out : List ℕ) (room : 
     pub record_steps : (line : List ℕ) → line ≡ record_line listed → Stepping «data» blocks p keys behind after line
     unfolding place_steps record_lines live_of in_data entry_of
     record_steps line w =
-        let m = room in
         let h = reached in
         let i = met_inside raw p.pos p.key_len r e in
         let f = live_few r.kind in

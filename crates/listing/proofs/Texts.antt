@@ -11,26 +11,28 @@ use lib.ListN.{length}
 use Rattle.num.specs.Choice.{both, when◌then◌else◌}
 use Rattle.block.specs.Walk.{Entry}
 use Rattle.header.specs.declared.Opened.{Opened}
-use Rattle.header.specs.declared.HeaderRead.TheVariants as read
+use Rattle.std.proofs.Common.{Some, None, Ok, Err}
+use Rattle.refusal.specs.declared.Refusal.{Refusal}
+use Rattle.refusal.specs.Refusal.{refusal_number}
 use Rattle.opening.specs.Open.{open_of}
 use Rattle.admission.specs.Admits.{OpensExactly}
 use Rattle.admission.specs.Blocks.{store_entries}
 use Rattle.admission.proofs.Opening.{open_exactly}
 use Rattle.lines.specs.Lines.{names_line, live_of, mean_of, totals_line, refused_line, unreadable_line}
 use Rattle.listing.specs.declared.walk.Place.{Place}
-use Rattle.listing.specs.declared.text.Left.TheVariants.{Unreadable, Refusal, Names, Records, Nothing}
+use Rattle.listing.specs.declared.text.Left.TheVariants.{Unreadable, Refused, Names, Records}
 use Rattle.listing.specs.Listing.{record_lines, listed_of, store_text, numbers_in, key_scratch, output_of}
 use Rattle.listing.specs.Internal.{entries_left, text_left, place_steps, steps_left, Stepping, Continues}
 use Rattle.listing.proofs.Steps.{entries_start}
 
 module _ (sectionLen : ℕ) («data» blocks keys : List ℕ) (line : List ℕ) where
-  pub unreadable_continues : line ≡ unreadable_line → Continues sectionLen «data» blocks Unreadable keys Nothing keys line
+  pub unreadable_continues : line ≡ unreadable_line → Continues sectionLen «data» blocks Unreadable keys None keys line
   unfolding text_left steps_left
   unreadable_continues e = record { text = sym e ∙ sym (append-nil line); fewer = omega arith; sound = tt }
 
-  pub refusal_continues : (n : ℕ) → line ≡ refused_line n → Continues sectionLen «data» blocks (Refusal n) keys Nothing keys line
+  pub refusal_continues : (r : Refusal) → line ≡ refused_line (refusal_number r) → Continues sectionLen «data» blocks (Refused r) keys None keys line
   unfolding text_left steps_left
-  refusal_continues n e = record { text = sym e ∙ sym (append-nil line); fewer = omega arith; sound = tt }
+  refusal_continues r e = record { text = sym e ∙ sym (append-nil line); fewer = omega arith; sound = tt }
 
   -- behind the names, the first place
   abbrev first : Place
@@ -40,7 +42,7 @@ module _ (sectionLen : ℕ) («data» blocks keys : List ℕ) (line : List ℕ) 
   unfolding entries_left
   left_first = entries_start «data» blocks
 
-  pub names_continue : (n : ℕ) → line ≡ names_line → 0 < n → Continues sectionLen «data» blocks (Names n) keys (Records n first) keys line
+  pub names_continue : (n : ℕ) → line ≡ names_line → 0 < n → Continues sectionLen «data» blocks (Names n) keys (Some (Records n first)) keys line
   unfolding text_left steps_left place_steps listed_of
   names_continue n e h =
       let s = ap length left_first in
@@ -54,7 +56,7 @@ module _ (sectionLen : ℕ) («data» blocks keys : List ℕ) (line : List ℕ) 
 
   -- behind the last record, the totals
   pub totals_continue : (n : ℕ) (p : Place) → entries_left «data» blocks p keys ≡ [] → line ≡ totals_line n p.live (mean_of sectionLen n)
-      → Continues sectionLen «data» blocks (Records n p) keys Nothing keys line
+      → Continues sectionLen «data» blocks (Records n p) keys None keys line
   unfolding text_left steps_left record_lines live_of
   totals_continue n p e w =
       record {
@@ -68,7 +70,7 @@ module _ (sectionLen : ℕ) («data» blocks keys : List ℕ) (line : List ℕ) 
       }
 
   pub record_continues : (n : ℕ) (p q : Place) (after : List ℕ) → 0 < n → Stepping «data» blocks p keys q after line
-      → Continues sectionLen «data» blocks (Records n p) keys (Records n q) after line
+      → Continues sectionLen «data» blocks (Records n p) keys (Some (Records n q)) after line
   unfolding text_left steps_left
   record_continues n p q after h s =
       let f = s.fewer in
@@ -83,18 +85,18 @@ module _ (sectionLen : ℕ) («data» blocks keys : List ℕ) (line : List ℕ) 
 -- ---- what is printed of an opening
 
 module _ (s «data» blocks keys : List ℕ) (scratch : ℕ) (same : scratch ≡ key_scratch) where
-  pub accepted_text : (o : Opened) → open_of s «data» blocks scratch ≡ read.Accepted o
-      → text_left (length s) «data» blocks (Names o.count) keys ≡ store_text s «data» blocks (open_of s «data» blocks key_scratch)
+  pub accepted_text : (o : Opened) → open_of s «data» blocks scratch ≡ Ok o
+      → text_left (length s) «data» blocks (Some (Names o.count)) keys ≡ store_text s «data» blocks (open_of s «data» blocks key_scratch)
   unfolding text_left store_text
   accepted_text o e = ap (store_text s «data» blocks) (sym e ∙ ap (open_of s «data» blocks) same)
 
-  pub refused_text : (n : ℕ) → open_of s «data» blocks scratch ≡ read.Refused n
-      → text_left (length s) «data» blocks (Refusal n) keys ≡ store_text s «data» blocks (open_of s «data» blocks key_scratch)
+  pub refused_text : (r : Refusal) → open_of s «data» blocks scratch ≡ Err r
+      → text_left (length s) «data» blocks (Some (Refused r)) keys ≡ store_text s «data» blocks (open_of s «data» blocks key_scratch)
   unfolding text_left store_text
-  refused_text n e = ap (store_text s «data» blocks) (sym e ∙ ap (open_of s «data» blocks) same)
+  refused_text r e = ap (store_text s «data» blocks) (sym e ∙ ap (open_of s «data» blocks) same)
 
 -- an accepted section has a key
-pub some_key : (s «data» blocks : List ℕ) (scratch : ℕ) (o : Opened) → open_of s «data» blocks scratch ≡ read.Accepted o → 0 < o.count
+pub some_key : (s «data» blocks : List ℕ) (scratch : ℕ) (o : Opened) → open_of s «data» blocks scratch ≡ Ok o → 0 < o.count
 unfolding OpensExactly
 some_key s «data» blocks scratch o e = ((open_exactly s «data» blocks scratch o).0 e).header.dimensions.some
 

@@ -1,10 +1,11 @@
 -- What the program `keys` prints of three files (document 01, "One store, worked through").
-use Rattle.std.specs.Prelude.{ℕ, zero, suc, ◌+◌, ◌/◌, ◌%◌, List, [], ◌∷◌, ◌++◌, Bool, eqb, length}
+use Rattle.std.specs.Prelude.{ℕ, zero, suc, ◌+◌, ◌/◌, ◌%◌, List, [], ◌∷◌, ◌++◌, Bool, eqb, length, Result, Ok, Err}
 use Rattle.num.specs.Choice.{both, when◌then◌else◌, ask◌otherwise◌then◌}
 use Rattle.num.specs.Number.{le_at}
 use Rattle.block.specs.Walk.{Entry}
-use Rattle.header.specs.declared.HeaderRead.{HeaderRead}
-use Rattle.header.specs.declared.HeaderRead.TheVariants.{Accepted, Refused}
+use Rattle.refusal.specs.declared.Refusal.{Refusal}
+use Rattle.refusal.specs.Refusal.{refusal_number}
+use Rattle.header.specs.declared.Opened.{Opened}
 use Rattle.opening.specs.Open.{open_of}
 use Rattle.admission.specs.Blocks.{store_entries}
 use Rattle.lines.specs.Lines.{names_line, record_line, live_of, mean_of, totals_line, refused_line, unreadable_line}
@@ -19,9 +20,9 @@ unfoldable pub listed_of : ℕ → ℕ → List Entry → List ℕ
 listed_of sectionLen keys entries = record_lines entries ++ totals_line keys (live_of entries) (mean_of sectionLen keys)
 
 -- what is printed of a store: the names, each record in block order, the totals; of a refusal its line alone
-unfoldable pub store_text : List ℕ → List ℕ → List ℕ → HeaderRead → List ℕ
-store_text s «data» blocks (Accepted o) = names_line ++ listed_of (length s) o.count (store_entries «data» blocks)
-store_text s «data» blocks (Refused n) = refused_line n
+unfoldable pub store_text : List ℕ → List ℕ → List ℕ → Result Opened Refusal → List ℕ
+store_text s «data» blocks (Ok o) = names_line ++ listed_of (length s) o.count (store_entries «data» blocks)
+store_text s «data» blocks (Err e) = refused_line (refusal_number e)
 
 -- as many numbers of 8 bytes as the last number says, from a place on
 unfoldable pub numbers_from : List ℕ → ℕ → ℕ → List ℕ

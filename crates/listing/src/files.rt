@@ -1,62 +1,39 @@
 // Three files, read into buffers, and what is printed of them.
-ghost use Rattle.std.specs.Prelude.{◌≤◌, length};
-ghost use Rattle.listing.specs.Internal.{Room, Sound};
+ghost use Rattle.std.specs.Prelude.{◌≤◌, length, IfSome, Some};
+ghost use Rattle.listing.specs.Internal.{Sound};
 
 use crate::text;
 use crate::text::Left;
+use crate::walk::{Keys, Line, Store};
 use std::rt::Files;
 use std::{fs, io, str};
 
-// How many bytes of a file were read, and whether they are all of it.
-#[derive(Clone, Copy)]
-struct Loaded {
-    len: usize,
-    whole: bool,
-}
-
-// Reads a file into a buffer. One that is missing or longer, cannot be read to its end, or whose name is not text, is not whole.
-fn load(rt: &impl Files, name: &[u8], buffer: &mut [u8]) -> Loaded
-    ensures { result.len ≤ length buffer.new }
+// The bytes of a file, read into a buffer. None of one that is missing or longer, cannot be read to its end, or whose
+// name is not text.
+fn load<'a>(rt: &impl Files, name: &[u8], buffer: &'a mut [u8]) -> Option<&'a [u8]>
+    ensures { IfSome result (λ bytes. length bytes.now ≤ length buffer.old) }
 {
-    let unreadable = Loaded {
-        len: 0,
-        whole: false,
-    };
-    let Ok(name) = str::from_utf8(name) else {
-        return unreadable;
-    };
-    let Ok(mut file) = fs::open(rt, name) else {
-        return unreadable;
-    };
+    let mut file = fs::open(rt, str::from_utf8(name).ok()?).ok()?;
     let mut rest = &mut *buffer;
-    // What was copied lies in the buffer, so the count always passes the test.
-    match io::copy(&mut file, &mut rest) {
-        Ok(len) if len <= buffer.len() as u64 => Loaded {
-            len: len as usize,
-            whole: true,
-        },
-        _ => unreadable,
-    }
+    let len = io::copy(&mut file, &mut rest).ok()?;
+    buffer.get(..len as usize)
 }
 
 // Prints what is left, line by line.
 fn print(
     rt: &impl Print,
-    section_len: u64,
-    data: &[u8],
-    blocks: &[u64],
-    keys: &mut [u8],
-    out: &mut [u8],
+    store: &Store<'_>,
+    keys: &mut Keys,
+    out: &mut Line,
     from: Left,
 ) -> io::Result<()>
-    requires { Room «data».now blocks.now keys.old out.old × Sound «data».now blocks.now from }
+    requires { Sound store.now.backing.now store.now.blocks.now (Some from) }
 {
-    let mut left = from;
-    while !text::finished(left) {
-        let printed = text::next_line(section_len, data, blocks, keys, out, left);
-        let len = printed.len;
-        rt.write_all(&out[0..len])?;
-        left = printed.left;
+    let mut left = Some(from);
+    while let Some(now) = left {
+        let (len, next) = text::next_line(store, keys, out, now);
+        rt.write_all(&out[..len])?;
+        left = next;
     }
     Ok(())
 }
@@ -74,16 +51,12 @@ fn print_files(
     let mut keys = [0u8; 32768];
     let mut out = [0u8; 65536];
     let left = text::start(whole, section, data, file, &mut blocks, &mut keys);
-    let count = file.len() / 8;
-    print(
-        rt,
-        section.len() as u64,
-        data,
-        &blocks[0..count],
-        &mut keys,
-        &mut out,
-        left,
-    )
+    let store = Store {
+        section_len: section.len() as u64,
+        backing: data,
+        blocks: &blocks[..file.len() / 8],
+    };
+    print(rt, &store, &mut keys, &mut out, left)
 }
 
 // Prints what there is to print of a store whose section, data and block list are the files of these names.
@@ -96,17 +69,14 @@ pub fn run(
     let mut section = [0u8; 16384];
     let mut data = [0u8; 16384];
     let mut list = [0u8; 16384];
-    let s = load(rt, section_name, &mut section);
-    let d = load(rt, data_name, &mut data);
-    let l = load(rt, list_name, &mut list);
-    let section_len = s.len;
-    let data_len = d.len;
-    let list_len = l.len;
+    let section = load(rt, section_name, &mut section);
+    let data = load(rt, data_name, &mut data);
+    let list = load(rt, list_name, &mut list);
     print_files(
         rt,
-        s.whole & d.whole & l.whole,
-        &section[0..section_len],
-        &data[0..data_len],
-        &list[0..list_len],
+        section.is_some() && data.is_some() && list.is_some(),
+        section.unwrap_or_default(),
+        data.unwrap_or_default(),
+        list.unwrap_or_default(),
     )
 }

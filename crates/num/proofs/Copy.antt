@@ -1,7 +1,8 @@
 -- A part of a list, stored element by element in another.
 -- Assumes nothing.
-use Rattle.std.proofs.Common.{◌≡◌, ℕ, suc, ◌+◌, ◌-◌, ◌<◌, ◌≤◌, List, ◌∷◌, ◌++◌, length, get_or, take, drop, set, sym, ap, ◌∙◌, arith, length-append, length-take-le, drop-cons, take_at}
+use Rattle.std.proofs.Common.{◌≡◌, ℕ, suc, ◌+◌, ◌-◌, ◌<◌, ◌≤◌, List, ◌∷◌, ◌++◌, length, get_or, take, drop, set, sym, ap, ◌∙◌, arith, length-append, length-take-le, drop-cons, take_at, drop-drop, append_assoc, refl}
 use lib.Seq.{sets, sets-eq}
+use borrow.Rule.Slice.PartMut.{put_mid}
 
 -- one element more, in front
 pub part_cons : (src : List ℕ) (from count : ℕ) → 0 < count → from < length src
@@ -37,3 +38,9 @@ pub take_sets : (out vs : List ℕ) (at : ℕ) → at + length vs ≤ length out
 take_sets out vs at h =
     let n : length (take at out ++ vs) ≡ at + length vs = length-append (take at out) vs ∙ ap (λ (k : ℕ). k + length vs) (length-take-le at out (omega arith)) in
     ap (take (at + length vs)) (sets-eq vs out at h) ∙ take_at (take at out ++ vs) (drop (at + length vs) out) (at + length vs) n
+
+-- a part of a list that was copied over: what stands there afterwards, and the rest as before
+pub copied : (out part : List ℕ) (at n : ℕ) → at + n ≤ length out → length part ≡ n → put_mid at n out part ≡ sets out at part
+copied out part at n h e =
+    let l : length part ≡ n = e in
+    sym (sets-eq part out at (omega arith) ∙ rw (l, append_assoc, ← drop-drop n at out) refl)

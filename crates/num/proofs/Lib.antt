@@ -11,4 +11,5 @@ pub mod Steps
 pub mod Stores
 pub mod Xor
 pub mod Overlap
+pub mod Standing
 pub mod Regions

@@ -136,10 +136,6 @@ put_done out at w i v h =
 pub le_at-one : (s : List ℕ) (at : ℕ) → le_at s at 1 ≡ get_or s at 0
 le_at-one s at = le_at-more s at 0 ∙ let z = le_at-none s (at + 1) in omega arith
 
--- a number from its two halves
-pub le_at-halves : (s : List ℕ) (w at a b : ℕ) → a ≡ le_at s at w → b ≡ le_at s (at + w) w → a + 2 ^ (8 * w) * b ≡ le_at s at (w + w)
-le_at-halves s w at a b p q = ap₂ (λ (x y : ℕ). x + 2 ^ (8 * w) * y) p q ∙ sym (le_at-split s w w at)
-
 pub width_8 : (w : ℕ) → is_width w ≡ true → (w ≡ 1 → ⊥) → (w ≡ 2 → ⊥) → (w ≡ 4 → ⊥) → w ≡ 8
 unfolding is_width
 width_8 w e n₁ n₂ n₄ =
@@ -158,3 +154,16 @@ le_at-bytes s t bs bt (suc w) p q e (suc k) h =
   where
     shift : (m : ℕ) → m + suc k ≡ suc m + k
     shift m = omega arith
+
+-- the low bytes of a number are its own
+pub le_bytes-same : (w u v q : ℕ) → u + 2 ^ (8 * w) * q ≡ v → le_bytes w u ≡ le_bytes w v
+unfolding le_bytes
+le_bytes-same zero u v q e = refl
+le_bytes-same (suc w) u v q e =
+    let t : 2 ^ (8 * suc w) * q ≡ 256 * (2 ^ (8 * w) * q) = ap (λ (n : ℕ). n * q) (pow_step w) ∙ mul_assoc 256 (2 ^ (8 * w)) q in
+    ap₂ ◌∷◌ (let low : u % 256 ≡ v % 256 = omega arith in low) (le_bytes-same w (u / 256) (v / 256) q (omega arith))
+
+-- the low bytes stored are the number's
+pub low_stored : (out x : List ℕ) (at width w v : ℕ) → width ≡ w → x ≡ sets out at (le_bytes w (v % 2 ^ (8 * w))) → x ≡ sets out at (le_bytes width v)
+low_stored out x at width w v e h =
+    h ∙ ap (sets out at) (le_bytes-same w (v % 2 ^ (8 * w)) v (v / 2 ^ (8 * w)) (omega arith) ∙ ap (λ (n : ℕ). le_bytes n v) (sym e))

@@ -2,7 +2,9 @@
 -- Assumes nothing.
 use Rattle.std.proofs.Common.{◌≡◌, ℕ, zero, suc, ◌+◌, ◌<◌, ◌≤◌, min, Bool, true, false, eqb, ltb, ◌⊎◌, List, [], ◌∷◌, ◌++◌, length, get_or, take, drop, sym, refl, ap, ◌∙◌, ap₂, inl, inr, not-suc-le-zero, add-zero, add_assoc, suc-add, zero-add, arith, length-drop, take-append-drop, drop_of_length-le, get_or-drop, take_all, drop-cons, get_or-take, drop-drop, ltb-false, ltb-true, le-ltb, lt-ltb, eq-eqb, ne_eqb, eqb-true}
 use borrow.Author.Tests.{eqb-false}
-use Rattle.num.specs.Choice.{when◌then◌else◌}
+use lib.Pointwise.{pointwise}
+use Rattle.std.specs.Prelude.{◌&&◌}
+use Rattle.num.specs.Choice.{when◌then◌else◌, both}
 use Rattle.num.specs.Order.{less_than, common_prefix_len, equal_bytes}
 use Rattle.num.proofs.Choice.{false_true, both_true, true_both}
 
@@ -321,3 +323,15 @@ equal_bytes-shared a b l = go (equal (common_prefix_len a b) (length a))
     go (inl e) = equal_bytes-same a b (common_prefix_len-whole a b e l) ∙ sym (eq-eqb _ _ e)
     go (inr n) =
         equal_bytes-other a b (λ e. n (ap (common_prefix_len a) (sym e) ∙ common_prefix_len-same a)) ∙ sym (ne_eqb _ _ n)
+
+-- the library's comparison of two slices
+pub pointwise_bytes : (a b : List ℕ) → pointwise eqb a b ≡ equal_bytes a b
+unfolding equal_bytes both
+pointwise_bytes [] [] = refl
+pointwise_bytes [] (y ∷ ys) = refl
+pointwise_bytes (x ∷ xs) [] = refl
+pointwise_bytes (x ∷ xs) (y ∷ ys) = go (eqb x y) (pointwise_bytes xs ys)
+  where
+    go : (b : Bool) → pointwise eqb xs ys ≡ equal_bytes xs ys → (b && pointwise eqb xs ys) ≡ both b (equal_bytes xs ys)
+    go true e = e
+    go false e = refl

@@ -1,11 +1,11 @@
 -- Parts of two lists of bytes, compared by numbers that may overlap.
 -- Assumes nothing.
-use Rattle.std.proofs.Common.{◌≡◌, ℕ, ◌+◌, ◌-◌, ◌<◌, ◌≤◌, Bool, true, false, eqb, leb, List, length, get_or, take, drop, sym, refl, ap, ◌∙◌, ap₂, add-zero, add_assoc, arith, ext_get_or, eq-eqb, eqb-true, leb-false, leb-true}
+use Rattle.std.proofs.Common.{◌≡◌, ℕ, ◌+◌, ◌-◌, ◌<◌, ◌≤◌, Bool, true, false, eqb, leb, List, length, get_or, take, drop, sym, refl, ap, ◌∙◌, add-zero, add_assoc, arith, ext_get_or, eq-eqb, eqb-true, leb-false, leb-true}
 use Rattle.num.specs.Number.{Bytes, le_at}
 use Rattle.num.specs.Order.{equal_bytes}
 use Rattle.num.proofs.Choice.{same_truth, never_true}
 use Rattle.num.proofs.Lists.{part_at, part_length}
-use Rattle.num.proofs.Number.{le_at-bytes, le_at-same, le_at-one}
+use Rattle.num.proofs.Number.{le_at-bytes, le_at-same}
 use Rattle.num.proofs.Order.{equal_bytes-same, equal_bytes-true}
 
 at_front : (s : List ℕ) (at w : ℕ) → le_at s (at + 0) w ≡ le_at s at w
@@ -71,12 +71,6 @@ module _ (a : List ℕ) (i : ℕ) (b : List ℕ) (j : ℕ) where
     both_ends n w ha hb l m e =
         last_number n w (n - w) w ha hb (omega arith) (omega arith)
         (λ k h. agree_more 0 0 w (omega arith) agree_none (at_front a i w ∙ e ∙ sym (at_front b j w)) k (omega arith))
-
-    -- a single byte
-    pub one_byte : i + 1 ≤ length a → j + 1 ≤ length b → eqb (get_or a i 0) (get_or b j 0) ≡ same 1
-    one_byte ha hb =
-        ap₂ eqb (sym (at_front a i 1 ∙ le_at-one a i)) (sym (at_front b j 1 ∙ le_at-one b j))
-        ∙ last_number 1 0 0 1 ha hb refl (omega arith) agree_none
 
   -- another number in front is another part
   pub other_front : (n w : ℕ) → w ≤ n → (le_at a i w ≡ le_at b j w → ⊥) → same n ≡ false

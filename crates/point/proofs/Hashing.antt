@@ -1,39 +1,45 @@
 -- The hash of a key: its chunks one after another, and the bits of each result.
 -- Assumes nothing.
-use mathlib.Core.Path.{◌≡◌, sym, ap, ap₂, ◌∙◌}
+use mathlib.Core.Path.{◌≡◌, refl, sym, ap, ap₂, ◌∙◌}
 use mathlib.Core.List.{List}
-use Prim.Native.Nat.{ℕ, suc, ◌+◌, ◌*◌, ◌-◌, ◌/◌, ◌%◌, ◌^◌, ◌<◌, ◌≤◌}
-use native.Mathlib.Nat.{mod-lt, lt_of_le_of_lt, lt_of_lt_of_le, mul-le-mul_left, sub-zero, zero-add, add-mul-div_left, div-eq_of_lt}
+use Prim.Native.Nat.{ℕ, zero, suc, ◌+◌, ◌*◌, ◌-◌, ◌/◌, ◌%◌, ◌^◌, ◌<◌, ◌≤◌}
+use native.Mathlib.Nat.{mod-lt, lt_of_le_of_lt, lt_of_lt_of_le, mul-le-mul_left, zero-add, add-mul-div_left, div-eq_of_lt}
 use native.Mathlib.Omega.{arith}
 use lib.Bits.{bit_xor, xor_lt}
 use lib.Pow.{pow_pos, pow_mono, shr_le, shr_lt}
-use lib.ListN.{length, get_or}
+use lib.ListN.{length, get_or, take, drop}
+use Rattle.std.proofs.Common.{fold, drop-drop, get_or-take, get_or-drop}
+use Rattle.std.specs.Simd.{first_chunks}
 use Rattle.num.specs.Number.{Bytes, le_at}
-use Rattle.num.proofs.Number.{le_at-lt, le_at-more, le_at-split}
+use Rattle.num.proofs.Number.{le_at-lt, le_at-more, le_at-none, le_at-same, le_at-split}
 use Rattle.num.specs.Wrapping.{mul_mod}
 use Rattle.point.specs.Hash.{xor_shift, mix_of, hash_chunk, chunks_of, tail_of, fingerprint_of}
 
--- a turn of the loop: what is left from the next chunk on is what was left before
-pub chunks_more : (key : List ℕ) (n at h : ℕ) → 8 ≤ n - at → chunks_of ((n - (at + 8)) / 8) key (at + 8) (hash_chunk h (le_at key at 8)) ≡ chunks_of ((n - at) / 8) key at h
+-- the chunks one after another are those of a key
+chunks_from : (key : List ℕ) (count at h : ℕ) → at + count * 8 ≤ length key
+    → fold (λ h chunk. hash_chunk h (le_at chunk 0 8)) h (first_chunks 8 count (drop at key)) ≡ chunks_of count key at h
 unfolding chunks_of
-chunks_more key n at h p =
-    let e : (n - at) / 8 ≡ suc ((n - (at + 8)) / 8) = omega arith in
-    sym (ap (λ (k : ℕ). chunks_of k key at h) e)
+chunks_from key zero at h l = refl
+chunks_from key (suc count) at h l =
+    let first : le_at (take 8 (drop at key)) 0 8 ≡ le_at key at 8 =
+    le_at-same (take 8 (drop at key)) key 8 0 at (λ k b. get_or-take 8 (drop at key) (0 + k) 0 (omega arith) ∙ get_or-drop at key (0 + k) 0 ∙ ap (λ (n : ℕ). get_or key (at + n) 0) (zero-add k)) in
+    ap (λ (x : ℕ). chunks (hash_chunk h x) (first_chunks 8 count (drop 8 (drop at key)))) first
+    ∙ ap (λ (s : List ℕ). chunks (hash_chunk h (le_at key at 8)) (first_chunks 8 count s)) (drop-drop 8 at key)
+    ∙ chunks_from key count (at + 8) (hash_chunk h (le_at key at 8)) (omega arith)
+  where
+    chunks : ℕ → List (List ℕ) → ℕ
+    chunks = fold (λ h chunk. hash_chunk h (le_at chunk 0 8))
+
+pub all_chunks : (key : List ℕ) (h : ℕ)
+    → fold (λ h chunk. hash_chunk h (le_at chunk 0 8)) h (first_chunks 8 (length key / 8) key) ≡ chunks_of (length key / 8) key 0 h
+all_chunks key h = chunks_from key (length key / 8) 0 h (omega arith)
 
 -- fewer than eight bytes are no chunk
-pub chunks_none : (key : List ℕ) (n at h : ℕ) → n - at < 8 → chunks_of ((n - at) / 8) key at h ≡ h
+pub chunks_none : (key : List ℕ) (h : ℕ) → length key < 8 → chunks_of (length key / 8) key 0 h ≡ h
 unfolding chunks_of
-chunks_none key n at h p =
-    let e : (n - at) / 8 ≡ 0 = omega arith in
-    ap (λ (k : ℕ). chunks_of k key at h) e
-
--- the first two chunks
-pub chunks_first : (key : List ℕ) (n h : ℕ) → 8 ≤ n → chunks_of ((n - 8) / 8) key 8 (hash_chunk h (le_at key 0 8)) ≡ chunks_of (n / 8) key 0 h
-chunks_first key n h p = chunks_more key n 0 h (omega arith) ∙ ap (λ (k : ℕ). chunks_of (k / 8) key 0 h) (sub-zero n)
-
-pub chunks_second : (key : List ℕ) (n h : ℕ) → 16 ≤ n
-    → chunks_of ((n - 16) / 8) key 16 (hash_chunk (hash_chunk h (le_at key 0 8)) (le_at key 8 8)) ≡ chunks_of (n / 8) key 0 h
-chunks_second key n h p = chunks_more key n 8 (hash_chunk h (le_at key 0 8)) (omega arith) ∙ chunks_first key n h (omega arith)
+chunks_none key h p =
+    let e : length key / 8 ≡ 0 = omega arith in
+    ap (λ (k : ℕ). chunks_of k key 0 h) e
 
 -- a key of less than eight bytes is its tail
 pub tail_few : (key : List ℕ) → length key < 8 → le_at key 0 (length key) ≡ tail_of key
@@ -71,12 +77,16 @@ odd_top key bytes at rest p q =
     ∙ ap (λ (n : ℕ). le_at key n rest) place
 
 -- the bytes that the chunks leave are the tail
-pub tail_left : (key : List ℕ) (at : ℕ) → at ≤ length key → at % 8 ≡ 0 → length key - at < 8 → le_at key at (length key - at) ≡ tail_of key
+pub tail_left : (key : List ℕ) → Bytes key → 8 ≤ length key → le_at key (length key - 8) 8 / 2 ^ (64 - 8 * (length key % 8)) ≡ tail_of key
 unfolding tail_of
-tail_left key at l m p =
-    let a : at ≡ 8 * (length key / 8) = omega arith in
-    let w : length key - at ≡ length key % 8 = omega arith in
-    ap₂ (le_at key) a w
+tail_left key bytes p =
+    let whole : 8 * (length key / 8) + length key % 8 ≡ length key = omega arith in
+    ap (λ (n : ℕ). le_at key (n - 8) 8 / 2 ^ (64 - 8 * (length key % 8))) (sym whole)
+    ∙ odd_top key bytes (8 * (length key / 8)) (length key % 8) (omega arith) (omega arith)
+
+pub tail_none : (key : List ℕ) → length key % 8 ≡ 0 → tail_of key ≡ 0
+unfolding tail_of
+tail_none key p = rw (p, le_at-none) refl
 
 product_lt : (a b : ℕ) → mul_mod a b < 2 ^ 64
 product_lt a b = mod-lt (a * b) (pow_pos 64)

@@ -1,21 +1,24 @@
 // From a key to its slot: hash, fingerprint, bucket, and what a pilot names.
 #![tactic(auto)]
 
-ghost use Rattle.std.specs.Prelude.{◌≡◌, ◌/◌, ◌<◌, length};
+ghost use Rattle.std.specs.Prelude.{◌≡◌, ◌/◌, ◌<◌, fold, length};
 ghost use Rattle.std.specs.Int.Bits.{bit_xor};
 ghost use Rattle.num.specs.Number.{le_at};
 ghost use Rattle.point.specs.Hash.{mix_of, hash_chunk, chunks_of, tail_of, hash_value, fingerprint_of, bucket_of, position_of, slot_of};
+
+use num::LittleEndian;
 
 // Bit 31. A pilot, of 32 bits, has it exactly if it is at least this number, and then names its slot.
 pub const DIRECT: u32 = 1 << 31;
 
 pub const STEP: u64 = 0x9e37_79b9_7f4a_7c15;
 
+#[tactic(auto, unfolding(crate::specs::Hash::mix_of, crate::specs::Hash::xor_shift))]
 pub fn mix(h: u64) -> u64
     ensures { result ≡ mix_of h }
 {
-    let a = num::wrapping_mul(h ^ (h >> 30), 0xbf58_476d_1ce4_e5b9);
-    let b = num::wrapping_mul(a ^ (a >> 27), 0x94d0_49bb_1331_11eb);
+    let a = (h ^ (h >> 30)).wrapping_mul(0xbf58_476d_1ce4_e5b9);
+    let b = (a ^ (a >> 27)).wrapping_mul(0x94d0_49bb_1331_11eb);
     b ^ (b >> 31)
 }
 
@@ -23,7 +26,15 @@ pub fn mix(h: u64) -> u64
 fn hash_chunk(h: u64, chunk: u64) -> u64
     ensures { result ≡ hash_chunk h chunk }
 {
-    num::wrapping_mul(num::rotate_left(h ^ chunk, 27), STEP)
+    (h ^ chunk).rotate_left(27).wrapping_mul(STEP)
+}
+
+fn all_chunks(chunks: &[[u8; 8]], first: u64) -> u64
+    ensures { result ≡ fold (λ h chunk. hash_chunk h (le_at chunk 0 8)) first chunks.now }
+{
+    chunks
+        .iter()
+        .fold(first, |h, chunk| hash_chunk(h, u64::read(chunk, 0)))
 }
 
 // The number in the bytes of a short key, from the last to the first.
@@ -31,53 +42,45 @@ fn few(key: &[u8]) -> u64
     requires { length key.now < 8 }
     ensures { result ≡ le_at key.now 0 (length key.now) }
 {
-    let mut left = key.len();
-    let mut sum = 0u64;
-    while 0 < left {
-        left -= 1;
-        sum = sum * 256 + num::widen(key[left]);
+    let mut sum = 0;
+    for left in (0..key.len()).rev() {
+        sum = sum * 256 + u64::from(key[left]);
     }
     sum
 }
 
-// The hash after all chunks and the last odd bytes, which in a longer key are the top ones of its last eight. Two chunks are
-// taken without the loop: most keys have no more.
-fn all_chunks(key: &[u8], first: u64) -> u64
+// The hash after all chunks and the last odd bytes, which in a longer key are the top ones of its last eight.
+fn all_bytes(key: &[u8], first: u64) -> u64
     ensures { result ≡ bit_xor (chunks_of (length key.now / 8) key.now 0 first) (tail_of key.now) }
 {
     let n = key.len();
     if n < 8 {
         return first ^ few(key);
     }
-    let mut h = hash_chunk(first, num::u64_at(key, 0));
-    let mut at = 8;
-    if 16 <= n {
-        h = hash_chunk(h, num::u64_at(key, 8));
-        at = 16;
-    }
-    while 8 <= n - at {
-        h = hash_chunk(h, num::u64_at(key, at));
-        at += 8;
-    }
-    if at == n {
+    let (chunks, odd) = key.as_chunks::<8>();
+    let h = all_chunks(chunks, first);
+    if odd.is_empty() {
         return h;
     }
-    h ^ (num::u64_at(key, n - 8) >> ((64 - 8 * (n - at)) as u32))
+    h ^ (u64::read(key, n - 8) >> (64 - 8 * odd.len()))
 }
 
+#[tactic(auto, unfolding(crate::specs::Hash::hash_value))]
 pub fn hash(key: &[u8], seed: u64) -> u64
     ensures { result ≡ hash_value key.now seed }
 {
     let first = mix(seed ^ (key.len() as u64));
-    mix(all_chunks(key, first))
+    mix(all_bytes(key, first))
 }
 
+#[tactic(auto, unfolding(crate::specs::Hash::fingerprint_of))]
 pub fn fingerprint(h: u64) -> u16
     ensures { result ≡ fingerprint_of h }
 {
     (mix(h ^ 0xd6e8_feb8_6659_fd93) >> 48) as u16
 }
 
+#[tactic(auto, unfolding(crate::specs::Hash::bucket_of))]
 pub fn bucket(h: u64, count: u64) -> u64
     requires { 0 < count }
     ensures { result ≡ bucket_of h count }
@@ -85,19 +88,21 @@ pub fn bucket(h: u64, count: u64) -> u64
     h % count
 }
 
+#[tactic(auto, unfolding(crate::specs::Hash::position_of))]
 pub fn position(h: u64, pilot: u32, n: u64) -> u64
     requires { 0 < n }
     ensures { result ≡ position_of h pilot n }
 {
-    mix(h ^ num::wrapping_mul(pilot as u64, STEP)) % n
+    mix(h ^ u64::from(pilot).wrapping_mul(STEP)) % n
 }
 
+#[tactic(auto, unfolding(crate::specs::Hash::slot_of, crate::specs::Hash::is_direct, crate::specs::Hash::direct_slot, num::specs::Choice::choice_defs))]
 pub fn slot(h: u64, pilot: u32, n: u64) -> u64
     requires { 0 < n }
     ensures { result ≡ slot_of h pilot n }
 {
     if pilot >= DIRECT {
-        return (pilot % DIRECT) as u64;
+        return u64::from(pilot % DIRECT);
     }
     position(h, pilot, n)
 }

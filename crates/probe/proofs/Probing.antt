@@ -10,8 +10,10 @@ use borrow.Author.Tests.{le-leb, lt-leb, eq-eqb, ne_eqb}
 use Rattle.num.specs.Choice.{when◌then◌else◌, either}
 use Rattle.sstable.specs.Kind.{kind_number}
 use Rattle.block.specs.declared.Record.{Record}
-use Rattle.block.specs.declared.Stepped.{Stepped}
-use Rattle.block.specs.declared.Stepped.TheVariants.{Met, Stopped}
+use Rattle.std.specs.Prelude.{Result, Ok, Err}
+use Rattle.refusal.specs.declared.Refusal.{Refusal}
+use Rattle.refusal.specs.declared.Refusal.TheVariants as refusal
+use Rattle.refusal.specs.Refusal.{refusal_number}
 use Rattle.block.specs.Record.{record_at}
 use Rattle.probe.specs.Probe.{no_slot, record_number, step_probe, probed_record_written, key_written}
 
@@ -27,7 +29,7 @@ pub a_slot : (pilot n : ℕ) → (n ≡ 0 → ⊥) → pilot < 2 ^ 32 → no_slo
 unfolding no_slot either
 a_slot pilot n e h = rw (ne_eqb n 0 e, lt-leb (2 ^ 32) pilot h)
 
-pub step_outside : (raw : List ℕ) (end pos keyLen : ℕ) → length raw < end → step_probe raw end pos keyLen ≡ Stopped
+pub step_outside : (raw : List ℕ) (end pos keyLen : ℕ) → length raw < end → step_probe raw end pos keyLen ≡ Err refusal.Entry
 unfolding step_probe when◌then◌else◌
 step_outside raw end pos keyLen h = rw (lt-leb end (length raw) h)
 
@@ -35,15 +37,15 @@ pub step_inside : (raw : List ℕ) (end pos keyLen : ℕ) → end ≤ length raw
 unfolding step_probe when◌then◌else◌
 step_inside raw end pos keyLen h = rw (le-leb end (length raw) h)
 
-module _ (raw : List ℕ) (pos : ℕ) (t : Stepped) (fields scratch : List ℕ) where
+module _ (raw : List ℕ) (pos : ℕ) (t : Result Record Refusal) (fields scratch : List ℕ) where
   -- the three parts of the promise at a stop
-  pub probe_stopped : t ≡ Stopped
-      → (13 ≡ record_number (length scratch) t) × (fields ≡ probed_record_written (length scratch) t fields) × (scratch ≡ key_written raw pos t scratch)
+  pub probe_stopped : (x : Refusal) → t ≡ Err x
+      → (refusal_number x ≡ record_number (length scratch) t) × (fields ≡ probed_record_written (length scratch) t fields) × (scratch ≡ key_written raw pos t scratch)
   unfolding record_number probed_record_written key_written
-  probe_stopped e = (rw e, rw e, rw e)
+  probe_stopped x e = (rw e, rw e, rw e)
 
   -- and where the key does not fit
-  pub probe_long : (r : Record) → t ≡ Met r → length scratch < r.key_len
+  pub probe_long : (r : Record) → t ≡ Ok r → length scratch < r.key_len
       → (15 ≡ record_number (length scratch) t) × (fields ≡ probed_record_written (length scratch) t fields) × (scratch ≡ key_written raw pos t scratch)
   unfolding record_number probed_record_written key_written when◌then◌else◌
   probe_long r e h =
@@ -51,7 +53,7 @@ module _ (raw : List ℕ) (pos : ℕ) (t : Stepped) (fields scratch : List ℕ) 
       (rw (e, f), rw (e, f), rw (e, f))
 
   -- and where a record is met
-  pub probe_met : (r : Record) (k : ℕ) → t ≡ Met r → r.key_len ≤ length scratch → k ≡ kind_number r.kind
+  pub probe_met : (r : Record) (k : ℕ) → t ≡ Ok r → r.key_len ≤ length scratch → k ≡ kind_number r.kind
       → (0 ≡ record_number (length scratch) t)
       × (sets fields 0 (k ∷ r.seq ∷ r.key_len ∷ r.place ∷ r.size ∷ r.next ∷ []) ≡ probed_record_written (length scratch) t fields)
       × (sets scratch r.shared (take (r.key_len - r.shared) (drop (pos + 21) raw)) ≡ key_written raw pos t scratch)

@@ -1,11 +1,11 @@
 // Exports for differential runs and benchmarks: the leaves, one by one. No part of the delivered interface.
 #![tactic(auto)]
 
-ghost use Rattle.std.specs.Prelude.{◌≡◌, true, ◌+◌, ◌*◌, ◌≤◌, ◌^◌, length};
+ghost use Rattle.std.specs.Prelude.{◌≡◌, ◌+◌, ◌*◌, ◌≤◌, ◌^◌, length};
 ghost use Rattle.crc32.specs.V42.{crc_of, update_of};
-ghost use Rattle.crc32.specs.Table.{is_table};
-ghost use Rattle.sstable.specs.Trailer.{trailer_of, trailer_number};
-ghost use Rattle.block.specs.Verify.{verify_of, verified_number};
+ghost use Rattle.refusal.specs.Refusal.{answer_number};
+ghost use Rattle.sstable.specs.Trailer.{trailer_of};
+ghost use Rattle.block.specs.Verify.{verify_of};
 ghost use Rattle.point.specs.Hash.{hash_value, fingerprint_of};
 ghost use Rattle.encoding.specs.Encoding.{width_of};
 ghost use Rattle.construction.specs.Construct.{construct_of};
@@ -23,16 +23,12 @@ ghost use Rattle.probe.specs.Probe.{
   key_written,
   totals_of,
   length_probe,
-  construct_number,
   seed_written,
   PlacedAs,
 };
 
-use block::{Stepped, Verified};
-use builder::{Builder, Sized};
-use construct::Built;
+use builder::Builder;
 use encoding::Totals;
-use sstable::Trailer;
 
 #[unsafe(no_mangle)]
 pub extern "C" fn probe_crc32_update(state: u32, data: &[u8]) -> u32
@@ -41,13 +37,12 @@ pub extern "C" fn probe_crc32_update(state: u32, data: &[u8]) -> u32
     crc32::update(state, data)
 }
 
-// This probe asks that the table is the right one.
+// The name of an older form: the table that is lent is not read.
 #[unsafe(no_mangle)]
 pub extern "C" fn probe_crc32_lent(table: &[[u32; 256]; 8], data: &[u8]) -> u32
-    requires { is_table table.now ≡ true }
     ensures { result ≡ crc_of «data».now }
 {
-    crc32::crc32_with(table, data)
+    crc32::crc32(data)
 }
 
 #[unsafe(no_mangle)]
@@ -108,6 +103,7 @@ pub extern "C" fn probe_width(max: u64) -> u64
 }
 
 #[unsafe(no_mangle)]
+#[tactic(auto, unfolding(crate::specs::Probe::length_probe, crate::specs::Probe::size_probe, crate::specs::Probe::totals_of))]
 pub extern "C" fn probe_section_len(totals: &[u64; 9], prefix: u64) -> u64
     ensures { result ≡ length_probe (totals_of totals.now) prefix }
 {
@@ -128,50 +124,44 @@ pub extern "C" fn probe_section_len(totals: &[u64; 9], prefix: u64) -> u64
         last_key: 0,
         anchor: 0,
     };
-    let size = builder::size(b, prefix);
-    match size {
-        Sized::Bytes(n) => n,
-        Sized::Refused(n) => 0,
-    }
+    builder::size(b, prefix).unwrap_or(0)
 }
 
 #[unsafe(no_mangle)]
+#[tactic(auto, unfolding(refusal::specs::Refusal::answer_number))]
 pub extern "C" fn probe_trailer(section: &[u8]) -> u64
-    ensures { result ≡ trailer_number (trailer_of section.now) }
+    ensures { result ≡ answer_number (trailer_of section.now) }
 {
-    let table = crc32::slices();
-    let found = sstable::verify_trailer(&table, section);
-    match found {
-        Trailer::Intact => 0,
-        Trailer::UnknownType => 1,
-        Trailer::ChecksumMismatch => 2,
+    match sstable::verify_trailer(section) {
+        Ok(()) => 0,
+        Err(refusal) => refusal.number(),
     }
 }
 
-// This one too asks that the table is the right one.
 #[unsafe(no_mangle)]
-pub extern "C" fn probe_verify_lent(table: &[[u32; 256]; 8], raw: &[u8], meta: &mut [u64; 3]) -> u64
-    requires { is_table table.now ≡ true }
-    ensures { (result ≡ verified_number (verify_of raw.now)) × (meta.new ≡ meta_written (verify_of raw.now) meta.old) }
+#[tactic(auto, unfolding(crate::specs::Probe::meta_written, refusal::specs::Refusal::answer_number))]
+pub extern "C" fn probe_verify(raw: &[u8], meta: &mut [u64; 3]) -> u64
+    ensures { (result ≡ answer_number (verify_of raw.now)) × (meta.new ≡ meta_written (verify_of raw.now) meta.old) }
 {
-    let found = block::verify(table, raw);
-    match found {
-        Verified::Sound(m) => {
-            meta[0] = m.entries_end as u64;
-            meta[1] = m.restart_start as u64;
-            meta[2] = m.num_restarts as u64;
+    match block::verify(raw) {
+        Ok(m) => {
+            *meta = [
+                m.entries_end as u64,
+                m.restart_start as u64,
+                m.num_restarts as u64,
+            ];
             0
         }
-        Verified::Unsound => 12,
+        Err(unsound) => unsound.number(),
     }
 }
 
+// As above.
 #[unsafe(no_mangle)]
-pub extern "C" fn probe_verify(raw: &[u8], meta: &mut [u64; 3]) -> u64
-    ensures { (result ≡ verified_number (verify_of raw.now)) × (meta.new ≡ meta_written (verify_of raw.now) meta.old) }
+pub extern "C" fn probe_verify_lent(table: &[[u32; 256]; 8], raw: &[u8], meta: &mut [u64; 3]) -> u64
+    ensures { (result ≡ answer_number (verify_of raw.now)) × (meta.new ≡ meta_written (verify_of raw.now) meta.old) }
 {
-    let table = crc32::slices();
-    probe_verify_lent(&table, raw, meta)
+    probe_verify(raw, meta)
 }
 
 // One step of a block's walk: the previous key is the first `key_len` bytes of the scratch.
@@ -193,15 +183,13 @@ pub extern "C" fn probe_record(
         return 13;
     }
     let at = pos as usize;
-    let step = block::record_at(raw, end, at, key_len as usize);
-    match step {
-        Stepped::Met(r) => {
+    match block::record_at(raw, end, at, key_len as usize) {
+        Ok(r) => {
             if scratch.len() < r.key_len {
                 return 15;
             }
-            let kind = r.kind;
             block::copy_key(raw, at + 21, r.key_len - r.shared, scratch, r.shared);
-            fields[0] = kind.to_u8() as u64;
+            fields[0] = u8::from(r.kind) as u64;
             fields[1] = r.seq;
             fields[2] = r.key_len as u64;
             fields[3] = r.place as u64;
@@ -209,7 +197,7 @@ pub extern "C" fn probe_record(
             fields[5] = r.next as u64;
             0
         }
-        Stepped::Stopped => 13,
+        Err(refusal) => refusal.number(),
     }
 }
 
@@ -225,16 +213,16 @@ pub extern "C" fn probe_construct(
 ) -> u64
     requires le_count { (1 ≤ count) × (count ≤ 2 ^ 20) × KeysStand area.now count }
     requires count_in_bounds { (count ≤ length hashes.old) × (6 * count + 8 ≤ length scratch.old) }
-    ensures { (result ≡ construct_number (construct_of (keys_in_of area.now count)))
+    ensures { (result ≡ answer_number (construct_of (keys_in_of area.now count)))
         × (seed.new ≡ seed_written (construct_of (keys_in_of area.now count)) seed.old)
         × PlacedAs (construct_of (keys_in_of area.now count)) (placement_in count scratch.new) }
 {
     let built = construct::construct(area, count as usize, hashes, scratch);
     match built {
-        Built::Seed(s) => {
+        Some(s) => {
             *seed = s;
             0
         }
-        Built::Exhausted => 40,
+        None => 40,
     }
 }

@@ -1,5 +1,5 @@
-// Asks lists of the Rust's answers again, and counts the rows that agree. tools/replay/make wrote the lists in data/, and
-// tools/replay/README.md has their form. What a question may write holds a 7 at every place before it.
+// Asks lists of the Rust's answers again, and counts the rows that agree. tools/replay/make wrote the lists in data/,
+// and tools/replay/README.md has their form. What a question may write holds a 7 at every place before it.
 #![tactic(auto)]
 
 mod leaves;
@@ -7,47 +7,30 @@ mod lookups;
 mod openings;
 mod records;
 
-use list::Tally;
+use list::{Kind, Row};
 use std::io;
 use std::rt::Files;
 
-fn agrees(list: &[u8], row: u64) -> bool {
-    match list::field(list, row, 0) {
-        1 => leaves::crc(list, row),
-        2 => leaves::hash(list, row),
-        3 => leaves::trailer(list, row),
-        4 => leaves::verify(list, row),
-        5 => leaves::record(list, row),
-        6 => openings::open(list, row),
-        7 => lookups::lookup(list, row),
-        8 => lookups::value(list, row),
-        15 => lookups::span(list, row),
-        16 => records::fill(list, row),
-        17 => records::find(list, row),
+fn agrees(kind: Kind, row: Row<'_>) -> bool {
+    match kind {
+        Kind::Crc => leaves::crc(row),
+        Kind::Hash => leaves::hash(row),
+        Kind::Trailer => leaves::trailer(row),
+        Kind::Verify => leaves::verify(row),
+        Kind::Step => leaves::step(row),
+        Kind::Open => openings::open(row),
+        Kind::Lookup => lookups::lookup(row),
+        Kind::Value => lookups::value(row),
+        Kind::Span => lookups::span(row),
+        Kind::Fill => records::fill(row),
+        Kind::Find => records::find(row),
         _ => false,
     }
 }
 
-// As many rows as the list says, which cannot be more than its bytes.
-fn replay(list: &[u8]) -> Tally {
-    let count = list::at_most(list::number(list, 0), list.len());
-    let mut t = list::start(list);
-    let mut i = 0;
-    while i < count {
-        let agrees = agrees(list, t.at);
-        t = list::counted(list, t, agrees);
-        i += 1;
-    }
-    t
-}
-
 // Replays the list in a file, and writes a line with the counts.
 fn report(rt: &(impl Files + Print + Eprint), name: &str) -> io::Result<()> {
-    let mut list = [0u8; 65536];
-    match list::load(rt, name, &mut list) {
-        Ok(list) => list::write_tally(rt, name.as_bytes(), replay(list)),
-        Err(error) => eprintln!(rt; "{name}: {error}"),
-    }
+    list::report(rt, name, agrees)
 }
 
 fn main(rt: HostRuntime) -> io::Result<()> {

@@ -3,44 +3,41 @@
 
 ghost use Rattle.std.specs.Prelude.{◌≡◌, true, ◌+◌, ◌≤◌, min, length, drop};
 ghost use Rattle.num.specs.Order.{less_than, common_prefix_len, equal_bytes};
-ghost use Rattle.crc32.specs.Table.{is_table};
 ghost use Rattle.sstable.specs.Kind.{kind_number, kind_of};
 ghost use Rattle.sstable.specs.Limits.{within_limits};
 ghost use Rattle.sstable.specs.Trailer.{trailer_of};
 
-#[derive(Clone, Copy)]
+use num::LittleEndian;
+use refusal::{Refusal, ask};
+
+// What a record says of its key: that it has a value, or that it has none any more. The numbers are those in blocks.
+#[derive(Clone, Copy, Debug, PartialEq, Eq, Hash)]
 pub enum Kind {
-    Put,
-    Tombstone,
+    Put = 1,
+    Tombstone = 2,
 }
 
-// What a kind byte says.
-#[derive(Clone, Copy)]
-pub enum KindRead {
-    Known(Kind),
-    Unknown,
-}
+impl From<Kind> for u8 {
+    ghost from_gives = { λ kind number. number ≡ kind_number kind };
 
-impl Kind {
-    pub fn to_u8(self) -> u8
-        ensures { result ≡ kind_number self }
-    {
-        match self {
-            Kind::Put => 1,
-            Kind::Tombstone => 2,
-        }
+    fn from(kind: Kind) -> u8 {
+        kind as u8
     }
+}
 
-    pub fn from_u8(b: u8) -> KindRead
-        ensures { result ≡ kind_of b }
-    {
-        if b == 1 {
-            return KindRead::Known(Kind::Put);
+// An entry whose kind is not known does not stand (question 13).
+impl TryFrom<u8> for Kind {
+    type Error = Refusal;
+
+    ghost try_from_gives = { λ number read. read ≡ kind_of number };
+
+    #[tactic(auto, unfolding(crate::specs::Kind::kind_of, num::specs::Choice::choice_defs))]
+    fn try_from(number: u8) -> Result<Kind, Refusal> {
+        match number {
+            1 => Ok(Kind::Put),
+            2 => Ok(Kind::Tombstone),
+            _ => Err(Refusal::Entry),
         }
-        if b == 2 {
-            return KindRead::Known(Kind::Tombstone);
-        }
-        KindRead::Unknown
     }
 }
 
@@ -49,19 +46,11 @@ pub const MAX_KEY_BYTES: usize = 1_048_576;
 pub const MAX_VALUE_BYTES: usize = 16_777_216;
 
 // Questions 14 and 30: are a key and a value of these lengths within the limits?
+#[tactic(auto, unfolding(crate::specs::Limits::limit_defs, num::specs::Choice::choice_defs))]
 pub fn mutation(key_len: usize, value_len: usize) -> bool
     ensures { result ≡ within_limits key_len value_len }
 {
-    if MAX_KEY_BYTES < key_len {
-        return false;
-    }
-    value_len <= MAX_VALUE_BYTES
-}
-
-fn shorter(a: &[u8], b: &[u8]) -> usize
-    ensures { result ≡ min (length a.now) (length b.now) }
-{
-    if a.len() < b.len() { a.len() } else { b.len() }
+    key_len <= MAX_KEY_BYTES && value_len <= MAX_VALUE_BYTES
 }
 
 // A place to which two keys agree, such that less than eight bytes are left or the next eight differ.
@@ -69,14 +58,13 @@ fn shared_words(a: &[u8], b: &[u8], end: usize) -> usize
     requires { end ≡ min (length a.now) (length b.now) }
     ensures { (result ≤ end) × (result + common_prefix_len (drop result a.now) (drop result b.now) ≡ common_prefix_len a.now b.now) }
 {
-    let mut i = 0;
-    while 8 <= end - i {
-        if num::u64_at(a, i) != num::u64_at(b, i) {
-            return i;
+    for word in 0..end / 8 {
+        let at = 8 * word;
+        if u64::read(a, at) != u64::read(b, at) {
+            return at;
         }
-        i += 8;
     }
-    i
+    8 * (end / 8)
 }
 
 // The end of what two keys share, from a place to which they agree.
@@ -84,21 +72,19 @@ fn shared_bytes(a: &[u8], b: &[u8], from: usize, end: usize) -> usize
     requires { (from ≤ end) × (end ≡ min (length a.now) (length b.now)) }
     ensures { result ≡ from + common_prefix_len (drop from a.now) (drop from b.now) }
 {
-    let mut i = from;
-    while i < end {
+    for i in from..end {
         if a[i] != b[i] {
             return i;
         }
-        i += 1;
     }
-    i
+    end
 }
 
 // How many leading bytes two keys share: eight at a time while both have eight more.
 pub fn common_prefix_len(a: &[u8], b: &[u8]) -> usize
     ensures { result ≡ common_prefix_len a.now b.now }
 {
-    let end = shorter(a, b);
+    let end = a.len().min(b.len());
     let from = shared_words(a, b, end);
     shared_bytes(a, b, from, end)
 }
@@ -117,38 +103,22 @@ pub fn key_less(a: &[u8], b: &[u8]) -> bool
     a[n] < b[n]
 }
 
+#[tactic(auto, using(num::proofs::Order::pointwise_bytes))]
 pub fn keys_equal(a: &[u8], b: &[u8]) -> bool
     ensures { result ≡ equal_bytes a.now b.now }
 {
-    if a.len() != b.len() {
-        return false;
-    }
-    common_prefix_len(a, b) == a.len()
+    a == b
 }
 
-// What the last five bytes of a section or a block say.
-#[derive(Clone, Copy)]
-pub enum Trailer {
-    Intact,
-    UnknownType,
-    ChecksumMismatch,
-}
-
-// Questions 1 and 2. The tables are lent, since a constant array is copied where it becomes a value.
-pub fn verify_trailer(table: &[[u32; 256]; 8], raw: &[u8]) -> Trailer
-    requires { is_table table.now ≡ true }
+// Questions 1 and 2, of the last five bytes of a section.
+#[tactic(auto, unfolding(crate::specs::Trailer::trailer_defs, num::specs::Choice::choice_defs))]
+pub fn verify_trailer(raw: &[u8]) -> Result<(), Refusal>
     ensures { result ≡ trailer_of raw.now }
 {
-    if raw.len() < 6 {
-        return Trailer::UnknownType;
-    }
-    let kind_at = raw.len() - 5;
-    if raw[kind_at] != 0 {
-        return Trailer::UnknownType;
-    }
-    let crc_at = raw.len() - 4;
-    if crc32::crc32_with(table, &raw[..crc_at]) != num::u32_at(raw, crc_at) {
-        return Trailer::ChecksumMismatch;
-    }
-    Trailer::Intact
+    ask(6 <= raw.len() && raw[raw.len() - 5] == 0, Refusal::Trailer)?;
+    let body = raw.len() - 4;
+    ask(
+        crc32::crc32(&raw[..body]) == u32::read(raw, body),
+        Refusal::SectionCrc,
+    )
 }

@@ -1,20 +1,10 @@
-use mathlib.Core.Path.{subst}
-use mathlib.Core.List.{List}
-use Prim.Native.Nat.{ℕ}
-use native.Mathlib.Omega.{arith}
-use Rattle.lines.specs.Wrote.{Wrote}
-use Rattle.lines.proofs.Hexadecimal.{key_digits, key_empty}
+use Rattle.std.proofs.Common.{arith}
+use Rattle.lines.proofs.Hexadecimal.{hex_of_more}
+use Rattle.lines.proofs.Parts.{wrote_both}
 use Rattle.lines.proofs.put_key.Goals as goal
 
-pub returns-then-key-eq0 : goal.returns-then-key-eq0
-returns-then-key-eq0 c =
-    let a = c.args in
-    subst (λ (x : List ℕ). Wrote a.out.now c.put.new.out a.at x c.put.result)
-    (key_empty a.key.now c.if-key-eq0.true) c.put.ensures
-
-pub returns : goal.returns
-returns c =
-    let a = c.args in
-    let some = c.if-key-eq0.false in
-    subst (λ (x : List ℕ). Wrote a.out.now c.put_hex.new.out a.at x c.put_hex.result)
-    (key_digits a.key.now (omega (arith, some))) c.put_hex.ensures
+pub loop-byte-preserved : goal.loop-byte-preserved
+loop-byte-preserved c = record {
+  written = wrote_both c.loop-byte.invariant.written c.put-end.ensures (cc (hex_of_more c.args.key.now c.loop-byte.byte-index c.loop-byte-test.true));
+  place = omega (arith, c.put-end.ensures.behind);
+}

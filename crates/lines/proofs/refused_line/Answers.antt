@@ -1,7 +1,7 @@
-use Rattle.lines.specs.Lines.{newline, refused_line}
-use Rattle.lines.proofs.Parts.{put_then}
+use Rattle.lines.specs.Lines.{line_defs}
+use Rattle.lines.proofs.Parts.{wrote_then}
 use Rattle.lines.proofs.refused_line.Goals as goal
 
 pub returns : goal.returns
-unfolding refused_line newline
-returns c = put_then c.put_labelled-end.ensures.0 c.put.ensures
+unfolding line_defs
+returns c = wrote_then c.put_labelled-end.ensures.written c.put.ensures

@@ -1,17 +1,11 @@
-use Rattle.std.proofs.Common.{sym, refl, ◌∙◌, add-zero, length-set, rules}
-use native.Mathlib.Nat.{sub-zero}
-use Rattle.num.proofs.Number.{put_step, put_done}
+use Rattle.num.proofs.Number.{low_stored}
 use Rattle.num.proofs.put_uint.Goals as goal
 
-pub loop-i-init : goal.loop-i-init
-loop-i-init c = (search rules, refl, rw (add-zero, sub-zero))
+pub returns-in-1 : goal.returns-in-1
+returns-in-1 c = low_stored c.args.out.now _ c.args.at c.args.width 1 c.args.value c.in-1.is c.write.ensures
 
-pub loop-i-preserved : goal.loop-i-preserved
-loop-i-preserved c =
-    let i = c.loop-i.invariant in
-    (search rules, simp length-set i.1, put_step _ _ _ _ _ c.loop-i-test.true ∙ i.2)
+pub returns-in-2 : goal.returns-in-2
+returns-in-2 c = low_stored c.args.out.now _ c.args.at c.args.width 2 c.args.value c.in-2.is c.write-in-2.ensures
 
-pub returns : goal.returns
-returns c =
-    let i = c.loop-i.invariant in
-    sym (put_done _ _ _ _ _ c.loop-i-test.false) ∙ i.2
+pub returns-in-4 : goal.returns-in-4
+returns-in-4 c = low_stored c.args.out.now _ c.args.at c.args.width 4 c.args.value c.in-4.is c.write-in-4.ensures

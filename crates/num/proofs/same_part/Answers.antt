@@ -1,34 +1,27 @@
-use Rattle.std.proofs.Common.{◌-◌, eqb, sym, ◌∙◌, ap₂, rules}
+use Rattle.std.proofs.Common.{◌≡◌, ◌+◌, ◌-◌, ◌*◌, nat_eq, sym, ◌∙◌, ap₂, rules, arith}
 use Rattle.num.proofs.Overlap.{agree_none, agree_more, last_number, other_number}
 use Rattle.num.proofs.same_part.Goals as goal
 
-pub returns-then-n-lt8 : goal.returns-then-n-lt8
-returns-then-n-lt8 c = c.same_few.ensures
-
 pub loop-k-init : goal.loop-k-init
-loop-k-init c = let args = c.args in (search rules, agree_none args.a.now args.i args.b.now args.j)
+loop-k-init c = let args = c.args in agree_none args.a.now args.i args.b.now args.j
 
-pub returns-then-u64_at : goal.returns-then-u64_at
-returns-then-u64_at c =
-    let at = c.loop-k in
+pub returns-then-read : goal.returns-then-read
+returns-then-read c =
     let args = c.args in
-    sym (other_number args.a.now args.i args.b.now args.j args.n at.k 8 (search rules)
-    (λ e. c.if-u64_at.true (c.u64_at.ensures ∙ e ∙ sym c.u64_at-in-loop-k.ensures)))
+    sym (other_number args.a.now args.i args.b.now args.j args.n (8 * c.loop-k.k) 8 (omega arith)
+    (λ e. c.if-read.true (c.read.ensures ∙ e ∙ sym c.read-in-loop-k.ensures)))
 
 pub loop-k-preserved : goal.loop-k-preserved
 loop-k-preserved c =
-    let at = c.loop-k in
     let args = c.args in
-    let same = sym c.u64_at.ensures ∙ c.if-u64_at.false ∙ c.u64_at-in-loop-k.ensures in (
-      search rules,
-      agree_more args.a.now args.i args.b.now args.j (λ n. (c.type_inv.a n).fits) (λ n. (c.type_inv.b n).fits)
-          at.k at.k 8 (search rules) at.invariant.1 same,
-    )
+    let next : 8 * c.loop-k.k + 8 ≡ 8 * (c.loop-k.k + 1) = omega arith in
+    rw (← next)
+    (agree_more args.a.now args.i args.b.now args.j (λ n. (c.type_inv.a n).fits) (λ n. (c.type_inv.b n).fits) (8 * c.loop-k.k) (8 * c.loop-k.k) 8 (omega arith)
+    c.loop-k.invariant (sym c.read.ensures ∙ c.if-read.false ∙ c.read-in-loop-k.ensures))
 
 pub returns : goal.returns
 returns c =
-    let at = c.loop-k in
     let args = c.args in
-    ap₂ eqb c.u64_at-2.ensures c.u64_at-3.ensures
+    ap₂ nat_eq c.read-2.ensures c.read-3.ensures
     ∙ last_number args.a.now args.i args.b.now args.j (λ n. (c.type_inv.a n).fits) (λ n. (c.type_inv.b n).fits)
-    args.n at.k (args.n - 8) 8 (search rules) (search rules) (search rules) (search rules) at.invariant.1
+    args.n (8 * c.loop-k.k) (args.n - 8) 8 (search rules) (search rules) (omega arith) (omega arith) c.loop-k.invariant
