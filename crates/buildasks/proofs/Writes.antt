@@ -155,7 +155,9 @@ module _ (lent : WriteLent) where
       → WriteResult lent (answer_number (section_for lent.area b lent.prefix a))
   unfolding section_for answer_number SeedDecided NoSeed
   constructed p h w s o (Ok c) e = written p h w s o (λ x. not_both refusal.NoSeed c (sym ((seed_decided area_keys).refuses.1 x) ∙ e))
-  constructed p h w s o (Err n) e = asked_40 p h w s o ((seed_decided area_keys).refuses.0 (e ∙ ap Err ((seed_decided area_keys).never n e)))
+  constructed p h w s o (Err n) e =
+      let q = (seed_decided area_keys).never n e in
+      subst (λ (k : Refusal). WriteResult lent (refusal_number k)) (sym q) (asked_40 p h w s o ((seed_decided area_keys).refuses.0 (e ∙ ap Err q)))
 
   outcome : WriteResult lent (answer_number from35)
   unfolding answer_number

@@ -67,7 +67,7 @@ module _ (taken : List Offer) (prefix room64 room32 room : ℕ) where
   -- the section, by what construction gives
   answer_for : Result Constructed Refusal → Result (List ℕ) Refusal
   answer_for (Ok c) = Ok (section_of taken prefix c)
-  answer_for (Err n) = Err refusal.NoSeed
+  answer_for (Err n) = Err n
 
   abbrev chain : Result (List ℕ) Refusal
   chain =
@@ -138,7 +138,7 @@ module _ (taken : List Offer) (prefix room64 room32 room : ℕ) where
   built p h s l (Ok c) e = section p h s l c e
   built p h s l (Err n) e =
       let q = (seed_decided (keys_of taken)).never n e in
-      no_seed p h s l ((seed_decided (keys_of taken)).refuses.0 (e ∙ ap Err q))
+      subst (λ (k : Refusal). Out (Err k)) (sym q) (no_seed p h s l ((seed_decided (keys_of taken)).refuses.0 (e ∙ ap Err q)))
 
   outcome : Out chain
   outcome =

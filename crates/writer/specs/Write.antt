@@ -54,7 +54,7 @@ scratch_enough n room64 room32 = both (leb n room64) (leb (6 * n + 8) room32)
 
 -- the section's bytes, by what construction gives; 40 is construction's
 unfoldable pub section_for : List ℕ → Builder → ℕ → Result Constructed Refusal → Result (List ℕ) Refusal
-section_for area b prefix (Err n) = Err refusal.NoSeed  -- 40
+section_for area b prefix (Err e) = Err e
 section_for area b prefix (Ok c) =
     Ok
     (section_bytes (encoding_of b.totals) c.seed b.totals.min_seq (groups_in area b.totals.keys)
