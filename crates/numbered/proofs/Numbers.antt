@@ -1,6 +1,6 @@
 -- Every refusal of an entry gives one of the entry's own numbers, layer by layer, and no own number is 0.
 -- Assumes nothing.
-use mathlib.Core.Path.{◌≡◌, refl, sym, ap, ◌∙◌}
+use mathlib.Core.Path.{◌≡◌, refl, sym, ap, ◌∙◌, subst⁻¹}
 use mathlib.Core.Logic.{◌↔◌, ◌⊎◌, inl, inr, ⊎_elim}
 use mathlib.Core.Bool.{Bool, true, false}
 use mathlib.Core.List.{List, [], ◌∷◌, Memᴰ}
@@ -33,11 +33,14 @@ use Rattle.locator.specs.declared.ValueLocator.{ValueLocator}
 use Rattle.locator.specs.Locator.{Located, readable, versions_from}
 use Rattle.lookup.specs.Lookup.{key_record_of, key_record_at, slot_read_of, hash_read, locate_of}
 use Rattle.lookup.specs.Value.{value_inside_of, value_number}
-use Rattle.construction.specs.Construct.{Constructed}
+use Rattle.construction.specs.Construct.{Constructed, construct_of}
 use Rattle.builder.specs.declared.Builder.{Builder}
 use Rattle.builder.specs.Offer.{Offer}
 use Rattle.builder.specs.Record.{size_of_section}
 use Rattle.builder.specs.Add.{BuilderState, add_of}
+use Rattle.construction.specs.Promises.{SeedDecided}
+use Rattle.construction.proofs.Promises.{seed_decided}
+use Rattle.area.specs.Area.{keys_in_of}
 use Rattle.writer.specs.Write.{section_for, write_of}
 use Rattle.numbers.specs.Numbers.{opened_of}
 use Rattle.numbers.specs.BuilderNumbers.{builder_in}
@@ -338,17 +341,18 @@ sizes_numbered numbers prefix =
     record { number = x.0; zero = x.1 }
 
 -- question 40
-section_own : (area : List ℕ) (b : Builder) (prefix : ℕ) (a : Result Constructed Refusal) → Gives write_numbers (section_for area b prefix a)
-unfolding section_for one_of either
-section_own area b prefix (Ok c) = tt
-section_own area b prefix (Err n) = refl
+section_own : (area : List ℕ) (b : Builder) (prefix : ℕ) (a : Result Constructed Refusal) → construct_of (keys_in_of area b.totals.keys) ≡ a
+    → Gives write_numbers (section_for area b prefix a)
+unfolding section_for SeedDecided one_of either
+section_own area b prefix (Ok c) e = tt
+section_own area b prefix (Err n) e = subst⁻¹ (λ (k : Refusal). Own write_numbers (refusal_number k)) ((seed_decided (keys_in_of area b.totals.keys)).never n e) refl
 
 -- questions 35 to 40
 write_own : (area : List ℕ) (b : Builder) (prefix room64 room32 room : ℕ) → Gives write_numbers (write_of area b prefix room64 room32 room)
 unfolding write_of one_of either
 write_own area b prefix room64 room32 room =
     let P = Gives {A = List ℕ} write_numbers in
-    asked P _ _ _ refl (asked P _ _ _ refl (asked P _ _ _ refl (asked P _ _ _ refl (asked P _ _ _ refl (section_own area b prefix _)))))
+    asked P _ _ _ refl (asked P _ _ _ refl (asked P _ _ _ refl (asked P _ _ _ refl (asked P _ _ _ refl (section_own area b prefix _ refl)))))
 
 pub writes_numbered : WritesNumbered
 unfolding WritesNumbered one_of either
