@@ -93,7 +93,7 @@ def names(title, found):
 
 print("### Functions that are gone\n")
 gone = [re.sub(r" \(requires.*", "", w).split(" ", 2) for w in FOUND["functions not found again"]]
-names("What states their promise now is said above.", [(crate, name) for crate, _, name in gone])
+names("What states the promise of the public ones now is said above.", [(crate, name) for crate, _, name in gone])
 print("### Signatures of public functions\n")
 PUBLIC = set()
 for root in (OLD, NEW):
