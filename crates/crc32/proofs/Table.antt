@@ -2,11 +2,11 @@
 -- Assumes nothing.
 use Rattle.std.proofs.Common.{◌≡◌, ℕ, zero, suc, ◌+◌, ◌*◌, ◌<◌, ◌/◌, ◌%◌, ◌^◌, List, [], ◌∷◌, map, length, get_or, replicate, refl, sym, ap, ap₂, ◌∙◌, arith, lit<}
 use Rattle.std.specs.List.{range_with_len}
-use Rattle.std.specs.Int.{byte_at, from_le_bytes, w64}
+use Rattle.std.specs.Int.{from_le_bytes, w64}
 use Rattle.std.proofs.lemmas.List.FromFn.{get_or-map-range_with_len}
-use lib.Bits.{bit_xor, xor_assoc, xor_comm, xor_zero_r, xor_lt}
+use lib.Bits.{bit_xor, xor_comm, xor_zero_r, xor_lt}
 use Rattle.num.specs.Choice.{choice_defs}
-use Rattle.num.specs.Number.{Bytes, le_bytes}
+use Rattle.num.specs.Number.{Bytes}
 use Rattle.std.proofs.lemmas.Nat.{le_bytes_8}
 use Rattle.num.proofs.Lists.{bytes_one, bytes_zeros}
 use Rattle.num.proofs.Standing.{std_bytes}
@@ -82,15 +82,15 @@ eight_entries w small =
     (step 1 (w / 2 ^ 48) (w / 2 ^ 56) _ (omega arith)
     (let top : w / 2 ^ 56 ≡ w / 2 ^ 56 % 256 = omega arith in ap (steps 8) top ∙ sym (entry_steps 0 (w / 2 ^ 56 % 256) (omega arith)))))))))
 
--- eight bytes by their entries, joined from the left
+-- eight bytes by their entries, those of the last bytes joined first
 pub eight_rule : (c word : ℕ) (bytes : List ℕ) → c < 2 ^ 32 → length bytes ≡ 8 → Bytes bytes → from_le_bytes w64 bytes < 2 ^ 64
     → word ≡ bit_xor (from_le_bytes w64 bytes) c
-    → bit_xor (bit_xor (bit_xor (bit_xor (bit_xor (bit_xor (bit_xor (entry_of 7 (word % 256)) (entry_of 6 (w_byte word 8))) (entry_of 5 (w_byte word 16)))
-    (entry_of 4 (w_byte word 24))) (entry_of 3 (w_byte word 32))) (entry_of 2 (w_byte word 40))) (entry_of 1 (w_byte word 48))) (entry_of 0 (w_byte word 56))
+    → bit_xor (entry_of 7 (word % 256)) (bit_xor (entry_of 6 (w_byte word 8)) (bit_xor (entry_of 5 (w_byte word 16)) (bit_xor (entry_of 4 (w_byte word 24))
+    (bit_xor (entry_of 3 (w_byte word 32)) (bit_xor (entry_of 2 (w_byte word 40)) (bit_xor (entry_of 1 (w_byte word 48)) (entry_of 0 (w_byte word 56))))))))
     ≡ update_of c bytes
 eight_rule c word bytes hc eight h small is =
     let v = from_le_bytes w64 bytes in
-    simp xor_assoc (sym (eight_entries word (rw is (xor_lt 64 v c small (omega arith)))))
+    sym (eight_entries word (rw is (xor_lt 64 v c small (omega arith))))
     ∙ ap (steps 64) (is ∙ xor_comm v c)
     ∙ sym (register_word 8 v c small)
     ∙ ap (register c) (sym (std_bytes 8 v) ∙ le_bytes_8 bytes v eight h refl)

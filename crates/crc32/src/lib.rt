@@ -23,14 +23,9 @@ fn update_eight(state: u32, bytes: &[u8; 8]) -> u32
 {
     let word = u64::from_le_bytes(*bytes) ^ u64::from(state);
     let [a, b, c, d, e, f, g, h] = word.to_le_bytes();
-    entry(7, a)
-        ^ entry(6, b)
-        ^ entry(5, c)
-        ^ entry(4, d)
-        ^ entry(3, e)
-        ^ entry(2, f)
-        ^ entry(1, g)
-        ^ entry(0, h)
+    // Four bytes do not wait for the register: their entries are joined first.
+    let high = entry(3, e) ^ (entry(2, f) ^ (entry(1, g) ^ entry(0, h)));
+    entry(7, a) ^ (entry(6, b) ^ (entry(5, c) ^ (entry(4, d) ^ high)))
 }
 
 // The register after one byte.

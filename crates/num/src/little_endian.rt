@@ -1,4 +1,4 @@
-// A number as bytes, the lowest first.
+// A number as bytes, the lowest first, at a place of a slice (lib.rt says why no part is cut out).
 
 ghost use Rattle.std.specs.Prelude.{◌≡◌, ℕ, ◌+◌, ◌≤◌, length};
 ghost use Rattle.std.proofs.lemmas.List.Edits.{sets};
@@ -22,6 +22,7 @@ pub trait LittleEndian: Copy {
         ensures { out.new ≡ sets out.old at (le_bytes WIDTH (value self)) };
 }
 
+// The impls are written out: a macro of the repository's own may not write one.
 impl LittleEndian for u8 {
     ghost WIDTH = { 1 };
 

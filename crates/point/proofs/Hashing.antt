@@ -1,7 +1,7 @@
 -- The hash of a key: its chunks one after another, and the bits of each result.
 -- Assumes nothing.
 use mathlib.Core.Path.{◌≡◌, refl, sym, ap, ap₂, ◌∙◌}
-use mathlib.Core.List.{List}
+use mathlib.Core.List.{List, []}
 use Prim.Native.Nat.{ℕ, zero, suc, ◌+◌, ◌*◌, ◌-◌, ◌/◌, ◌%◌, ◌^◌, ◌<◌, ◌≤◌}
 use native.Mathlib.Nat.{mod-lt, lt_of_le_of_lt, lt_of_lt_of_le, mul-le-mul_left, zero-add, add-mul-div_left, div-eq_of_lt}
 use native.Mathlib.Omega.{arith}
@@ -33,6 +33,16 @@ chunks_from key (suc count) at h l =
 pub all_chunks : (key : List ℕ) (h : ℕ)
     → fold (λ h chunk. hash_chunk h (le_at chunk 0 8)) h (first_chunks 8 (length key / 8) key) ≡ chunks_of (length key / 8) key 0 h
 all_chunks key h = chunks_from key (length key / 8) 0 h (omega arith)
+
+-- one chunk, and two
+pub one_chunk : (key : List ℕ) (h : ℕ) → length key / 8 ≡ 1
+    → hash_chunk h (le_at (get_or (first_chunks 8 (length key / 8) key) 0 []) 0 8) ≡ chunks_of (length key / 8) key 0 h
+one_chunk key h e = rw e (chunks_from key 1 0 h (omega arith))
+
+pub two_chunks : (key : List ℕ) (h : ℕ) → length key / 8 ≡ 2
+    → hash_chunk (hash_chunk h (le_at (get_or (first_chunks 8 (length key / 8) key) 0 []) 0 8)) (le_at (get_or (first_chunks 8 (length key / 8) key) 1 []) 0 8)
+    ≡ chunks_of (length key / 8) key 0 h
+two_chunks key h e = rw e (chunks_from key 2 0 h (omega arith))
 
 -- fewer than eight bytes are no chunk
 pub chunks_none : (key : List ℕ) (h : ℕ) → length key < 8 → chunks_of (length key / 8) key 0 h ≡ h

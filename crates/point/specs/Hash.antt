@@ -58,3 +58,8 @@ slot_of h pilot n = when is_direct pilot then direct_slot pilot else position_of
 unfoldable pub hash_defs : ℕ
 unfolding xor_shift mix_of hash_chunk chunks_of tail_of hash_value fingerprint_of bucket_of position_of is_direct direct_slot slot_of
 hash_defs = 0
+
+-- and `unfolding slot_defs` those of a slot alone
+unfoldable pub slot_defs : ℕ
+unfolding is_direct direct_slot slot_of when◌then◌else◌
+slot_defs = 0

@@ -1,10 +1,20 @@
 // From a key to its slot: hash, fingerprint, bucket, and what a pilot names.
 #![tactic(auto)]
 
-ghost use Rattle.std.specs.Prelude.{◌≡◌, ◌/◌, ◌<◌, fold, length};
+ghost use Rattle.std.specs.Prelude.{◌≡◌, ◌/◌, ◌%◌, ◌<◌, ◌≤◌, fold, length};
 ghost use Rattle.std.specs.Int.Bits.{bit_xor};
 ghost use Rattle.num.specs.Number.{le_at};
-ghost use Rattle.point.specs.Hash.{mix_of, hash_chunk, chunks_of, tail_of, hash_value, fingerprint_of, bucket_of, position_of, slot_of};
+ghost use Rattle.point.specs.Hash.{
+  mix_of,
+  hash_chunk,
+  chunks_of,
+  tail_of,
+  hash_value,
+  fingerprint_of,
+  bucket_of,
+  position_of,
+  slot_of,
+};
 
 use num::LittleEndian;
 
@@ -23,21 +33,14 @@ pub fn mix(h: u64) -> u64
 }
 
 // The hash after one more chunk.
-fn hash_chunk(h: u64, chunk: u64) -> u64
-    ensures { result ≡ hash_chunk h chunk }
+fn next_chunk(h: u64, chunk: &[u8; 8]) -> u64
+    ensures { result ≡ hash_chunk h (le_at chunk.now 0 8) }
 {
-    (h ^ chunk).rotate_left(27).wrapping_mul(STEP)
+    (h ^ u64::read(chunk, 0)).rotate_left(27).wrapping_mul(STEP)
 }
 
-fn all_chunks(chunks: &[[u8; 8]], first: u64) -> u64
-    ensures { result ≡ fold (λ h chunk. hash_chunk h (le_at chunk 0 8)) first chunks.now }
-{
-    chunks
-        .iter()
-        .fold(first, |h, chunk| hash_chunk(h, u64::read(chunk, 0)))
-}
-
-// The number in the bytes of a short key, from the last to the first.
+// The number in the bytes of a short key, from the last to the first. By index: what is summed is the number that
+// stands from `left` on (`le_at`), and the loop's rule says it by that place.
 fn few(key: &[u8]) -> u64
     requires { length key.now < 8 }
     ensures { result ≡ le_at key.now 0 (length key.now) }
@@ -49,22 +52,39 @@ fn few(key: &[u8]) -> u64
     sum
 }
 
-// The hash after all chunks and the last odd bytes, which in a longer key are the top ones of its last eight.
+fn all_chunks(chunks: &[[u8; 8]], first: u64) -> u64
+    ensures { result ≡ fold (λ h chunk. hash_chunk h (le_at chunk 0 8)) first chunks.now }
+{
+    chunks.iter().fold(first, next_chunk)
+}
+
+// The hash after the last odd bytes behind the chunks, which are the top ones of a key's last eight.
+fn odd_bytes(h: u64, key: &[u8], odd: usize) -> u64
+    requires { (8 ≤ length key.now) × (odd ≡ length key.now % 8) }
+    ensures { result ≡ bit_xor h (tail_of key.now) }
+{
+    if odd == 0 {
+        return h;
+    }
+    h ^ (u64::read(key, key.len() - 8) >> (64 - 8 * odd))
+}
+
+// The hash after all chunks and the odd bytes. Most keys have one chunk or two, which take no loop.
 fn all_bytes(key: &[u8], first: u64) -> u64
     ensures { result ≡ bit_xor (chunks_of (length key.now / 8) key.now 0 first) (tail_of key.now) }
 {
-    let n = key.len();
-    if n < 8 {
-        return first ^ few(key);
-    }
     let (chunks, odd) = key.as_chunks::<8>();
-    let h = all_chunks(chunks, first);
-    if odd.is_empty() {
-        return h;
-    }
-    h ^ (u64::read(key, n - 8) >> (64 - 8 * odd.len()))
+    let h = match chunks {
+        [] => return first ^ few(key),
+        [one] => next_chunk(first, one),
+        [one, two] => next_chunk(next_chunk(first, one), two),
+        _ => all_chunks(chunks, first),
+    };
+    odd_bytes(h, key, odd.len())
 }
 
+// Always inlined: a lookup works on the hash while it asks whether the section gives its record.
+#[inline(always)]
 #[tactic(auto, unfolding(crate::specs::Hash::hash_value))]
 pub fn hash(key: &[u8], seed: u64) -> u64
     ensures { result ≡ hash_value key.now seed }
@@ -96,7 +116,7 @@ pub fn position(h: u64, pilot: u32, n: u64) -> u64
     mix(h ^ u64::from(pilot).wrapping_mul(STEP)) % n
 }
 
-#[tactic(auto, unfolding(crate::specs::Hash::slot_of, crate::specs::Hash::is_direct, crate::specs::Hash::direct_slot, num::specs::Choice::choice_defs))]
+#[tactic(auto, unfolding(crate::specs::Hash::slot_defs))]
 pub fn slot(h: u64, pilot: u32, n: u64) -> u64
     requires { 0 < n }
     ensures { result ≡ slot_of h pilot n }

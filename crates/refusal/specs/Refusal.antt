@@ -53,6 +53,11 @@ unfoldable pub answer_number : {A : Type 0} → Result A Refusal → ℕ
 answer_number (Ok x) = 0
 answer_number (Err e) = refusal_number e
 
+-- what stands behind an answer where a number was asked for: that number, or on a refusal what stood there
+abbrev pub answer_left : Result ℕ Refusal → ℕ → ℕ
+answer_left (Ok n) before = n
+answer_left (Err e) before = before
+
 -- a question: nothing, or the refusal that its "no" gives
 abbrev pub ask_of : Bool → Refusal → Result (Unit {0}) Refusal
 ask_of holds refusal = when holds then Ok tt else Err refusal

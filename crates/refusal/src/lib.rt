@@ -2,7 +2,7 @@
 #![tactic(auto)]
 
 ghost use Rattle.std.specs.Prelude.{◌≡◌};
-ghost use Rattle.refusal.specs.Refusal.{ask_of, refusal_number};
+ghost use Rattle.refusal.specs.Refusal.{answer_left, answer_number, ask_of, refusal_number};
 
 /// The questions by their numbers; docs/REFUSALS.md says of each what it is often due to, and what to do.
 #[derive(Clone, Copy, Debug, PartialEq, Eq, Hash)]
@@ -15,7 +15,8 @@ pub enum Refusal {
     Magic = 3,
     /// Do the header's numbers fit each other: keys, buckets, widths, flags, arena start?
     Header = 4,
-    /// With the scan flag: do the 8 bytes before the last five hold 24 + n * address width, and does a part of that length before them start behind the arena start and with `KIBANSC1`?
+    /// With the scan flag: do the 8 bytes before the last five hold 24 + n * address width, and does a part of that
+    /// length before them start behind the arena start and with `KIBANSC1`?
     ScanPart = 5,
     /// With the scan flag: are its prefix length 1 to 24, its stride 32, its prefix count 1 to n?
     ScanSettings = 6,
@@ -37,7 +38,8 @@ pub enum Refusal {
     Limits = 14,
     /// Is each key at most half the key scratch?
     KeyRoom = 15,
-    /// At a key's first record: is there a key record for it, inside the arena, with its anchor, lengths and versions right?
+    /// At a key's first record: is there a key record for it, inside the arena, with its anchor, lengths and versions
+    /// right?
     KeyRecord = 16,
     /// Is each key greater than the last?
     KeyOrder = 17,
@@ -91,6 +93,7 @@ pub enum Refusal {
     BlocksRoom = 41,
 }
 
+// A method and no `From`: `refusal.number()` says which number it is, and `u64::from(refusal)` would leave it open.
 impl Refusal {
     /// The number of the question, which C and Rust callers get; 0 is left for no refusal.
     pub fn number(self) -> u64
@@ -106,4 +109,19 @@ pub fn ask(holds: bool, refusal: Refusal) -> Result<(), Refusal>
     ensures { result ≡ ask_of holds refusal }
 {
     if holds { Ok(()) } else { Err(refusal) }
+}
+
+/// The number of an answer, as the C interface hands it out. What was asked for goes to `out`, which a refusal leaves
+/// as it was.
+#[tactic(auto, unfolding(crate::specs::Refusal::answer_number))]
+pub fn answered(answer: Result<u64, Refusal>, out: &mut u64) -> u64
+    ensures { (result ≡ answer_number answer) × (out.new ≡ answer_left answer out.old) }
+{
+    match answer {
+        Ok(n) => {
+            *out = n;
+            0
+        }
+        Err(refusal) => refusal.number(),
+    }
 }

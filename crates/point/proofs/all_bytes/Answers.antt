@@ -1,21 +1,22 @@
-use Rattle.std.proofs.Common.{ap, sym, ◌∙◌, eqb-true, arith}
-use lib.Bits.{bit_xor, xor_zero_r}
-use Rattle.point.proofs.Hashing.{all_chunks, chunks_none, tail_few, tail_left, tail_none}
+use Rattle.std.proofs.Common.{◌≡◌, ℕ, ◌/◌, length, arith, refl, ap, ◌∙◌}
+use lib.Bits.{bit_xor}
+use Rattle.point.specs.Hash.{chunks_of, tail_of}
+use Rattle.point.proofs.Hashing.{all_chunks, chunks_none, tail_few, one_chunk, two_chunks}
+use Rattle.point.proofs.all_bytes.Goals.{in-len1, in-len2, in_default}
 use Rattle.point.proofs.all_bytes.Goals as goal
 
-pub returns-then-n-lt8 : goal.returns-then-n-lt8
-returns-then-n-lt8 c =
+pub returns-in-empty : goal.returns-in-empty
+returns-in-empty c =
     let key = c.args.key.now in
-    rw (chunks_none key c.args.first c.if-n-lt8.true, c.few.ensures, tail_few key c.if-n-lt8.true)
-
-pub returns-then-is_empty : goal.returns-then-is_empty
-returns-then-is_empty c =
-    let key = c.args.key.now in
-    let none = eqb-true _ _ (sym c.is_empty.ensures ∙ c.if-is_empty.true) in
-    rw (c.all_chunks-h.ensures, c.as_chunks.ensures.front, all_chunks key c.args.first, tail_none key (omega arith)) (sym (xor_zero_r _))
+    rw (c.few.ensures, chunks_none key c.args.first (omega arith), tail_few key (omega arith)) refl
 
 pub returns : goal.returns
 returns c =
     let key = c.args.key.now in
-    rw (c.all_chunks-h.ensures, c.as_chunks.ensures.front, c.as_chunks.ensures.back_len, c.read.ensures, all_chunks key c.args.first)
-    (ap (bit_xor _) (tail_left key (λ k. (c.type_inv.key k).fits) (omega arith)))
+    let joined : c.if-chunks-lt2.h ≡ chunks_of (length key / 8) key 0 c.args.first =
+    elim c.if-chunks-lt2.branch [
+      | in-len1 w ↦ w.h-is ∙ rw (w.next_chunk-h.ensures, c.as_chunks.ensures.front, one_chunk key c.args.first (omega arith)) refl
+      | in-len2 w ↦ w.h-is ∙ rw (w.next_chunk-h-in-len2.ensures, w.next_chunk.ensures, c.as_chunks.ensures.front, two_chunks key c.args.first (omega arith)) refl
+      | in_default w ↦ w.h-is ∙ rw (w.all_chunks-h.ensures, c.as_chunks.ensures.front, all_chunks key c.args.first) refl
+    ] in
+    c.odd_bytes.ensures ∙ ap (λ (x : ℕ). bit_xor x (tail_of key)) joined
