@@ -35,7 +35,7 @@ arena_len_le e t w b =
     let v = product_le t.versions (version_len_of e) 24 b.versions (version_le e w) in
     omega arith
 
-scan_len_le : (e : Encoding) (t : Totals) (prefix : ℕ) → Widths e → Bounded t → scan_len_of e t prefix ≤ 8 * 2 ^ 30 + 32
+pub scan_len_le : (e : Encoding) (t : Totals) (prefix : ℕ) → Widths e → Bounded t → scan_len_of e t prefix ≤ 8 * 2 ^ 30 + 32
 unfolding scan_len_of
 scan_len_le e t prefix w b =
     let h = product_le t.keys e.address 8 b.keys (widths_le e w).0 in
@@ -58,12 +58,12 @@ section_len_le e t prefix w b =
     omega arith
 
 -- what the parts of a section's length come to
-pub parts_le : (e : Encoding) (t : Totals) (prefix : ℕ) → Widths e → Bounded t
+pub parts_le : (e : Encoding) (t : Totals) → Widths e → Bounded t
     → (e.address ≤ 8) × (t.keys ≤ 2 ^ 30) × (t.keys * e.address ≤ 8 * 2 ^ 30) × (t.keys * (e.address + 2) ≤ 10 * 2 ^ 30)
-    × (arena_len_of e t ≤ 45 * 2 ^ 30) × (scan_len_of e t prefix ≤ 8 * 2 ^ 30 + 32)
-parts_le e t prefix w b =
+    × (arena_len_of e t ≤ 45 * 2 ^ 30)
+parts_le e t w b =
     let a = (widths_le e w).0 in
-    (a, b.keys, product_le t.keys e.address 8 b.keys a, product_le t.keys (e.address + 2) 10 b.keys (omega arith), arena_len_le e t w b, scan_len_le e t prefix w b)
+    (a, b.keys, product_le t.keys e.address 8 b.keys a, product_le t.keys (e.address + 2) 10 b.keys (omega arith), arena_len_le e t w b)
 
 -- an address up to the arena's length fits the address width
 pub address_fits : (t : Totals) (a : ℕ) → Bounded t → a ≤ arena_len_of (encoding_of t) t → a < 2 ^ (8 * (encoding_of t).address)

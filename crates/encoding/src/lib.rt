@@ -8,6 +8,7 @@ ghost use Rattle.encoding.specs.Encoding.{
   width_of,
   value_width_of,
   address_width_of,
+  encoding_with,
   encoding_of,
   key_header_len_of,
   version_len_of,
@@ -70,7 +71,8 @@ fn address_width(arena: usize, last_value_offset: u64) -> usize
 }
 
 // The widths in which a section stores its numbers, and whether each version has its value's CRC-32. Their rule,
-// `Widths`, is a clause and no part of the type: C callers keep an opened record's numbers and hand them back.
+// `Widths`, is a clause and no part of this type, but of `Layout`: C callers keep an opened record's numbers and hand
+// them back.
 #[derive(Clone, Copy, Debug, PartialEq, Eq)]
 pub struct Encoding {
     pub address: usize,
@@ -102,92 +104,116 @@ impl Encoding {
 
     pub const TRAILER: usize = 5;
 
-    // The encoding that a builder's totals ask for.
-    pub fn for_builder(t: Totals) -> Self
+    // The encoding of a builder's totals with addresses of a width.
+    #[tactic(auto, unfolding(crate::specs::Encoding::encoding_with))]
+    fn with_address(address: usize, t: Totals) -> Self
         requires { Bounded t }
-        ensures { result ≡ encoding_of t }
+        ensures { result ≡ encoding_with address t }
     {
-        let mut result = Self {
-            address: 4,
+        Self {
+            address,
             key: width(t.max_key_len),
             count: width(t.max_versions),
             seq: width(t.max_seq - t.min_seq),
             value: value_width(t.max_value_len),
             checksum: true,
-        };
-        result.address = address_width(result.arena_len(t), t.last_value_offset);
-        result
+        }
+    }
+}
+
+// An encoding whose widths are allowed. That totals are bounded stays a clause of its lengths, of `for_builder` and of
+// `with_address`: a type of bounded totals would be made in `Builder::size`, `writing::build` and `write_section`, each
+// just behind question 37 and for one or two calls: three clauses and a type in place of these five.
+#[derive(Clone, Copy)]
+pub struct Layout {
+    pub encoding: Encoding,
+    ghost allowed: { Widths encoding },
+}
+
+impl Layout {
+    pub fn new(encoding: Encoding) -> Layout
+        requires { Widths encoding }
+        ensures { result.encoding ≡ encoding }
+    {
+        Layout { encoding }
+    }
+
+    // The layout that a builder's totals ask for.
+    #[tactic(auto, unfolding(crate::specs::Encoding::encoding_of))]
+    pub fn for_builder(t: Totals) -> Layout
+        requires { Bounded t }
+        ensures { result.encoding ≡ encoding_of t }
+    {
+        let short = Layout::new(Encoding::with_address(4, t));
+        let address = address_width(short.arena_len(t), t.last_value_offset);
+        Layout::new(Encoding::with_address(address, t))
     }
 
     // The bytes of a key record before its suffix.
     #[tactic(auto, unfolding(crate::specs::Encoding::key_header_len_of), using(crate::proofs::Widths::widths_le))]
     pub fn key_header(self) -> usize
-        requires { Widths self }
-        ensures { result ≡ key_header_len_of self }
+        ensures { result ≡ key_header_len_of self.encoding }
     {
-        self.address + 2 * self.key + self.count
+        let e = self.encoding;
+        e.address + 2 * e.key + e.count
     }
 
     // The bytes of a version.
     #[tactic(auto, unfolding(crate::specs::Encoding::encoding_defs), using(crate::proofs::Widths::widths_le))]
     pub fn version(self) -> usize
-        requires { Widths self }
-        ensures { result ≡ version_len_of self }
+        ensures { result ≡ version_len_of self.encoding }
     {
-        if self.checksum {
-            self.seq + self.value + self.address + 4
+        let e = self.encoding;
+        if e.checksum {
+            e.seq + e.value + e.address + 4
         } else {
-            self.seq + self.value + self.address
+            e.seq + e.value + e.address
         }
     }
 
     #[tactic(auto, unfolding(crate::specs::Encoding::arena_len_of), using(crate::proofs::Lengths::arena_len_le))]
     pub fn arena_len(self, t: Totals) -> usize
-        requires widths { Widths self }
-        requires bounded { Bounded t }
-        ensures { result ≡ arena_len_of self t }
+        requires { Bounded t }
+        ensures { result ≡ arena_len_of self.encoding t }
     {
         t.keys as usize * self.key_header()
             + t.suffix_bytes as usize
             + t.versions as usize * self.version()
     }
 
-    // The bytes of the scan part with its length, none without a prefix.
-    #[tactic(auto, unfolding(crate::specs::Encoding::length_defs))]
+    // The bytes of the scan part with its length, none without a prefix: 0 and no `Option`, as callers say it.
+    #[tactic(auto, using(crate::proofs::Lengths::parts_le), unfolding(crate::specs::Encoding::length_defs))]
     fn scan_len(self, t: Totals, prefix: usize) -> usize
-        requires widths { Widths self }
-        requires bounded { Bounded t }
-        ensures { result ≡ scan_len_of self t prefix }
+        requires { Bounded t }
+        ensures { result ≡ scan_len_of self.encoding t prefix }
     {
         if prefix > 0 {
-            Self::SCAN_HEADER + t.keys as usize * self.address + 8
+            Encoding::SCAN_HEADER + t.keys as usize * self.encoding.address + 8
         } else {
             0
         }
     }
 
-    #[tactic(auto, unfolding(crate::specs::Encoding::length_defs))]
+    #[tactic(auto, using(crate::proofs::Lengths::parts_le, crate::proofs::Lengths::scan_len_le), unfolding(crate::specs::Encoding::length_defs))]
     pub fn section_len(self, t: Totals, prefix: usize) -> usize
-        requires widths { Widths self }
-        requires bounded { Bounded t }
-        ensures { result ≡ section_len_of self t prefix }
+        requires { Bounded t }
+        ensures { result ≡ section_len_of self.encoding t prefix }
     {
         let keys = t.keys as usize;
         let buckets = (keys + 1) / 2;
-        Self::HEADER
+        Encoding::HEADER
             + 4 * buckets
-            + keys * (self.address + 2)
+            + keys * (self.encoding.address + 2)
             + self.arena_len(t)
             + self.scan_len(t, prefix)
-            + Self::TRAILER
+            + Encoding::TRAILER
     }
 
     // The bit of a stored value length that marks a tombstone.
     #[tactic(auto, unfolding(crate::specs::Encoding::tombstone_of), using(crate::proofs::Widths::widths_le))]
     pub fn tombstone(self) -> u64
-        requires { Widths self }
-        ensures { result ≡ tombstone_of self }
+        ensures { result ≡ tombstone_of self.encoding }
     {
-        1 << (8 * self.value - 1)
+        1 << (8 * self.encoding.value - 1)
     }
 }

@@ -35,6 +35,10 @@ module _ (o : Opened) (d : Dimensions o) where
   pub addresses_lt : o.count * o.encoding.address < 2 ^ 35
   addresses_lt = let f = d.few in address_case (λ a. o.count * a < 2 ^ 35) (omega arith) (omega arith)
 
+  -- so no sum of the packed arena's start wraps
+  pub start_small : (o.count * o.encoding.address < 2 ^ 35) × (o.buckets ≤ 2 ^ 30)
+  start_small = (addresses_lt, buckets_range.1)
+
 -- ---- of a plain record
 
 module _ (s : List ℕ) (o : Opened) (h : Header s o) where

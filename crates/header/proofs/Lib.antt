@@ -1,5 +1,6 @@
 pub mod Answers
 pub mod Bounds
 pub mod Numbers
+mod OneOf
 pub mod Headers
 pub mod Questions

@@ -1,16 +1,13 @@
 -- What a yes to each question says in plain terms, and back.
 -- Assumes nothing.
-use mathlib.Core.Path.{◌≡◌, refl, sym, ap, ap₂, ◌∙◌}
-use mathlib.Core.Bool.{Bool, true, false}
+use mathlib.Core.Path.{◌≡◌, sym, ap, ap₂, ◌∙◌}
+use mathlib.Core.Bool.{Bool, true}
 use mathlib.Core.List.{List, [], ◌∷◌}
 use Prim.Native.Nat.{ℕ, ◌+◌, ◌*◌, ◌^◌, ◌<◌, ◌≤◌}
 use native.Mathlib.Omega.{arith}
-use native.Mathlib.Numerals.{add-one}
 use lib.Dec.{eqb}
 use lib.ListN.{length}
 use borrow.Author.Tests.{leb-true, le-leb, ltb-true, lt-ltb, eqb-true, eq-eqb}
-use lib.ListN.{get_or, drop}
-use Prim.Native.Nat.{zero, suc}
 use Rattle.num.specs.Choice.{either, one_of}
 use Rattle.num.specs.Number.{Bytes, le_at}
 use Rattle.num.proofs.Choice.{both_true, true_both, same_truth}
@@ -58,21 +55,6 @@ pub yes_widths : (e : Encoding) → Widths e → allowed_widths e ≡ true
 unfolding allowed_widths
 yes_widths e w =
     true_both _ _ w.address (true_both _ _ w.key (true_both _ _ w.count (true_both _ _ w.seq w.value)))
-
--- one more of a list of widths is another
-pub one_of_more : (ws : List ℕ) (w i : ℕ) → i < length ws → eqb w (get_or ws i 0) ≡ false → one_of (drop (i + 1) ws) w ≡ one_of (drop i ws) w
-unfolding one_of either
-one_of_more [] w i h e = absurd (omega arith)
-one_of_more (x ∷ ws) w zero h e = rw e refl
-one_of_more (x ∷ ws) w (suc i) h e =
-    let more = one_of_more ws w i (omega arith) e in
-    rw (add-one (suc i)) (rw (add-one i) at more)
-
-pub one_of_found : (ws : List ℕ) (w i : ℕ) → i < length ws → w ≡ get_or ws i 0 → one_of (drop i ws) w ≡ true
-unfolding one_of either
-one_of_found [] w i h e = absurd (omega arith)
-one_of_found (x ∷ ws) w zero h e = rw (eq-eqb _ _ e) refl
-one_of_found (x ∷ ws) w (suc i) h e = one_of_found ws w i (omega arith) e
 
 first_of : (x : ℕ) (xs : List ℕ) (w : ℕ) → eqb w x ≡ true → one_of (x ∷ xs) w ≡ true
 unfolding one_of either

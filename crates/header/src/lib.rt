@@ -1,9 +1,28 @@
-// The header of a section, and the record of an opened one: questions 3 to 7.
+// The header of a section, and the record of an opened one: questions 3 to 7. Section and record stand beside each
+// other, and are no view: here the record is being made, and each of the views above (`packed::Plain`, `held::Fitting`,
+// `lookup::Section`) holds another fact of the two.
 #![tactic(auto)]
 
 ghost use Rattle.std.specs.Prelude.{◌≡◌, ◌+◌, ◌≤◌, ◌<◌, length};
 ghost use Rattle.num.specs.Choice.{one_of};
-ghost use Rattle.header.specs.Header.{stands_at_of, begins, has_flag, encoding_at, fields_of, allowed_widths, dimensions, scan_part_len, scan_place_of, scan_part, scan_settings, scanned_of, header_of, fits_packed, packed_record, arena_end_of};
+ghost use Rattle.header.specs.Header.{
+  stands_at_of,
+  begins,
+  has_flag,
+  encoding_at,
+  fields_of,
+  allowed_widths,
+  dimensions,
+  scan_part_len,
+  scan_place_of,
+  scan_part,
+  scan_settings,
+  scanned_of,
+  header_of,
+  fits_packed,
+  packed_record,
+  arena_end_of,
+};
 ghost use Rattle.header.specs.Internal.{usual_widths};
 ghost use Rattle.header.specs.Facts.{Dimensions};
 
@@ -11,7 +30,8 @@ use encoding::Encoding;
 use num::LittleEndian;
 use refusal::{Refusal, ask};
 
-// What opening keeps of a section: numbers alone. `scan` is the place of the scan part, 0 without one.
+// What opening keeps of a section: numbers alone. `scan` is the place of the scan part, 0 without one, as in
+// the sixteen numbers that C callers keep: an `Option` would be opened again at each key of a span (`wholekeys`).
 #[derive(Clone, Copy, Debug, PartialEq, Eq)]
 pub struct Opened {
     pub seed: u64,
@@ -24,7 +44,9 @@ pub struct Opened {
     pub packed: bool,
 }
 
-// Do these eight bytes stand at a place?
+// Do these eight bytes stand at a place? They are compared as numbers: the library's `==` of two slices is a call,
+// which every lookup would make. A place, as in `num`.
+#[tactic(auto, using(crate::proofs::Questions::stands_at))]
 pub fn stands_at(section: &[u8], at: usize, bytes: &[u8]) -> bool
     requires { (length bytes.now ≡ 8) × (at + 8 ≤ length section.now) }
     ensures { result ≡ stands_at_of section.now at bytes.now }
@@ -33,7 +55,7 @@ pub fn stands_at(section: &[u8], at: usize, bytes: &[u8]) -> bool
 }
 
 // Question 3.
-#[tactic(auto, unfolding(crate::specs::Header::begins, encoding::specs::Encoding::magic, num::specs::Choice::choice_defs))]
+#[tactic(auto, unfolding(crate::specs::Internal::begins_defs))]
 pub fn begins(section: &[u8]) -> bool
     ensures { result ≡ begins section.now }
 {
@@ -81,14 +103,16 @@ pub fn fields(section: &[u8]) -> Opened
     }
 }
 
-// The widths, but for that of sequences, of most sections: addresses of four bytes, fewer than 256 bytes and versions to a key, values below 2^15 bytes.
+// The widths, but for that of sequences, of most sections: addresses of four bytes, fewer than 256 bytes and versions
+// to a key, values below 2^15 bytes.
+#[tactic(auto, unfolding(crate::specs::Internal::usual_widths, num::specs::Choice::both))]
 pub fn usual_widths(e: Encoding) -> bool
     ensures { result ≡ usual_widths e }
 {
     (e.address == 4) & ((e.key == 1) & ((e.count == 1) & (e.value == 2)))
 }
 
-#[tactic(auto, using(crate::proofs::Questions::one_of_more, crate::proofs::Questions::one_of_found), unfolding(num::specs::Choice::one_of))]
+#[tactic(auto, using(crate::proofs::OneOf::more, crate::proofs::OneOf::found), unfolding(num::specs::Choice::one_of))]
 fn is_one_of(widths: &[usize], w: usize) -> bool
     ensures { result ≡ one_of widths.now w }
 {
@@ -100,7 +124,7 @@ fn is_one_of(widths: &[usize], w: usize) -> bool
     false
 }
 
-#[tactic(auto, using(crate::proofs::Questions::usual_allowed), unfolding(crate::specs::Header::header_defs, num::specs::Choice::both))]
+#[tactic(auto, using(crate::proofs::Questions::usual_allowed), unfolding(crate::specs::Internal::width_defs))]
 pub fn allowed_widths(e: Encoding) -> bool
     ensures { result ≡ allowed_widths e }
 {
@@ -116,7 +140,7 @@ pub fn allowed_widths(e: Encoding) -> bool
 }
 
 // Question 4, but for the comparison with the section's length.
-#[tactic(auto, unfolding(crate::specs::Header::header_defs, encoding::specs::Encoding::encoding_defs, num::specs::Choice::choice_defs))]
+#[tactic(auto, unfolding(crate::specs::Internal::dimension_defs))]
 pub fn dimensions(o: Opened, flags: u32) -> bool
     ensures { result ≡ dimensions o flags }
 {
@@ -128,8 +152,9 @@ pub fn dimensions(o: Opened, flags: u32) -> bool
         && o.arena == Encoding::HEADER + 4 * o.buckets + o.count * (o.encoding.address + 2)
 }
 
-// Question 5, of a part of a length that would start at a place: behind it are its length and the last five bytes.
-#[tactic(auto, unfolding(crate::specs::Header::scan_part, crate::specs::Header::scan_place_of, encoding::specs::Encoding::scan_magic, num::specs::Choice::both))]
+// Question 5, of a part of a length that would start at a place: behind it are its length and the last five bytes. Both
+// numbers come from `scanned`, which needs them too: neither is counted twice.
+#[tactic(auto, unfolding(crate::specs::Internal::scan_defs))]
 fn scan_part(section: &[u8], o: Opened, len: usize, scan: usize) -> bool
     requires long { 69 ≤ length section.now }
     requires part { (len ≡ scan_part_len o) × (scan ≡ scan_place_of section.now o) }
@@ -194,6 +219,7 @@ pub fn fits_packed(o: Opened) -> bool
 }
 
 // The record of the packed bytes of a section with this record.
+#[tactic(auto, using(crate::proofs::Bounds::start_small), unfolding(crate::specs::Header::packed_record))]
 pub fn packed_record(o: Opened) -> Opened
     requires { Dimensions o }
     ensures { result ≡ packed_record o }

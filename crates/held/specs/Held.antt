@@ -82,3 +82,8 @@ holds_of s r =
 -- it is what the definitions ask of the record that the numbers are
 unfoldable pub HeldExactly : Type 0
 HeldExactly = (s r : List ℕ) → holds_of s r ≡ both (is_record_numbers r) (is_record_of s (opened_of r))
+
+-- for proofs alone: `unfolding held_defs` opens the tests
+unfoldable pub held_defs : ℕ
+unfolding widths_say widths_hold header_says counts_fit scan_holds plain_holds packed_holds when◌then◌else◌ both either
+held_defs = 0

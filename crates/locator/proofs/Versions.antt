@@ -11,7 +11,7 @@ use lib.ListN.{length}
 use borrow.Author.Tests.{le-leb, lt-leb, lt-ltb, le-ltb}
 use Rattle.num.specs.Choice.{when◌then◌else◌, both}
 use Rattle.num.specs.Number.{le_at}
-use Rattle.num.proofs.Choice.{true_both, both_no, if_true}
+use Rattle.num.proofs.Choice.{true_both, both_no}
 use Rattle.encoding.specs.Encoding.{version_len_of}
 use Rattle.header.specs.declared.Opened.{Opened}
 use Rattle.versions.specs.Version.{stored_seq}
@@ -23,14 +23,6 @@ use Rattle.locator.specs.Locator.{readable, locator_at, versions_from}
 pub stored_sum : (s : List ℕ) (o : Opened) (pos : ℕ) {n : ℕ} → n ≡ le_at s pos o.encoding.seq → o.min_seq + n ≡ stored_seq s o pos
 unfolding stored_seq
 stored_sum s o pos e = ap (λ (k : ℕ). o.min_seq + k) e
-
--- with checksums, the CRC-32 of a version is read with it
-pub checksum_read : (s : List ℕ) (o : Opened) (pos : ℕ) → o.encoding.checksum ≡ true → pos + version_len_of o.encoding ≤ length s
-    → pos + o.encoding.seq + o.encoding.value + o.encoding.address + 4 ≤ length s
-unfolding version_len_of
-checksum_read s o pos t h =
-    let e : ◌≡◌ {A = ℕ} (when◌then◌else◌ o.encoding.checksum 4 0) 4 = if_true o.encoding.checksum 4 0 t in
-    omega arith
 
 module _ (s : List ℕ) (o : Opened) (pos limit : ℕ) where
   -- ---- one version more

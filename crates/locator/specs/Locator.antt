@@ -1,7 +1,7 @@
 -- The versions of a key record under a limit, as a lookup reads them (question 25), and what a lookup answers.
 use Rattle.std.specs.Prelude.{ℕ, zero, suc, ◌+◌, ◌^◌, List, Bool, true, false, Option, None, Some, Result, Ok, Err, leb, ltb, length}
 use Rattle.num.specs.Choice.{when◌then◌else◌, ask◌otherwise◌then◌, both}
-use Rattle.encoding.specs.Encoding.{version_len_of}
+use Rattle.encoding.specs.Encoding.{version_len_of, tombstone_of}
 use Rattle.header.specs.declared.Opened.{Opened}
 use Rattle.versions.specs.Version.{stored_seq, stored_value, kind_in, length_in, stored_offset, stored_checksum}
 use Rattle.locator.specs.declared.ValueLocator.{ValueLocator}
@@ -44,3 +44,13 @@ versions_from (suc count) s o pos limit =
 unfoldable pub locator_defs : ℕ
 unfolding readable locator_at versions_from
 locator_defs = 0
+
+-- and `unfolding read_defs` those of one version's numbers
+unfoldable pub read_defs : ℕ
+unfolding version_len_of stored_value stored_offset stored_checksum kind_in locator_at when◌then◌else◌
+read_defs = 0
+
+-- and `unfolding length_defs` that of its value's length
+unfoldable pub length_defs : ℕ
+unfolding tombstone_of length_in
+length_defs = 0

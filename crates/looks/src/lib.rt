@@ -1,4 +1,5 @@
-// A lookup over sixteen numbers as the opened record.
+// A lookup over sixteen numbers as the opened record. It answers a question's number and writes six numbers, which the
+// C interface asks for; `lookup::Section::locate` answers a `Result`.
 #![tactic(auto)]
 
 ghost use Rattle.std.specs.Prelude.{◌≡◌};
@@ -8,8 +9,8 @@ ghost use Rattle.looks.specs.Looked.{lookup_of, answer_written};
 use lookup::Section;
 use refusal::Refusal;
 
-// Looks a key up under a limit in an opened section, plain or packed, and writes the answer, six zeros for none. The result is 0, or the
-// number of the question that failed (24, 25), which leaves the answer as it was.
+// Looks a key up under a limit in an opened section, plain or packed, and writes the answer, six zeros for none. The
+// result is 0, or the number of the question that failed (24, 25), which leaves the answer as it was.
 pub fn lookup(
     section: &[u8],
     numbers: &[u64; 16],

@@ -18,6 +18,8 @@ use Rattle.point.proofs.Slots.{bucket_lt, position_lt, slot_direct, slot_positio
 use Rattle.encoding.specs.Encoding.{Widths}
 use Rattle.encoding.proofs.Widths.{widths_le}
 use Rattle.header.specs.declared.Opened.{Opened}
+use Rattle.opened.specs.Opened.{is_record_of}
+use Rattle.opened.proofs.Records.{record_facts}
 use Rattle.header.specs.Facts.{Header, PackedHeader, IsRecord, from_plain, from_packed}
 use Rattle.header.proofs.Bounds.{product_le, buckets_range, pilot_inside, packed_pilot_inside, arena_end, record_dimensions}
 use Rattle.lookup.specs.Lookup.{unpacked, pilot_len, pilot_offset, pilot_of, slot_len, slot_offset, key_record_at, slot_read_of, hash_read}
@@ -188,3 +190,19 @@ module _ (s : List ℕ) (o : Opened) (r : IsRecord s o) where
         let l = slots_fit h (pilot_of s o h) (slot_of h (pilot_of s o h) o.count) (slot_len o) refl refl in
         let p = pilots_le in
         omega arith
+
+-- ---- what the record of an opened section gives
+
+pub given_widths : (s : List ℕ) (o : Opened) → is_record_of s o ≡ true → Widths o.encoding
+given_widths s o e = record_widths s o (record_facts s o e)
+
+pub given_address : (s : List ℕ) (o : Opened) → is_record_of s o ≡ true → o.encoding.address ≤ 8
+given_address s o e = (widths_le o.encoding (given_widths s o e)).0
+
+pub given_packed : (s : List ℕ) (o : Opened) (h b : ℕ) → is_record_of s o ≡ true → b ≡ bucket_of h o.buckets → o.packed ≡ true
+    → 64 + 3 * b + 3 ≤ length s
+given_packed s o h b g = packed_pilot s o (record_facts s o g) h b
+
+pub given_plain : (s : List ℕ) (o : Opened) (h b : ℕ) → is_record_of s o ≡ true → b ≡ bucket_of h o.buckets → o.packed ≡ false
+    → 64 + 4 * b + 4 ≤ length s
+given_plain s o h b g = plain_pilot s o (record_facts s o g) h b

@@ -79,3 +79,8 @@ no_limit = 2 ^ 64 - 1
 unfoldable pub lookup_defs : ℕ
 unfolding unpacked pilot_len pilot_offset pilot_of slot_len slot_offset key_record_of key_record_at slot_read_of hash_read locate_of
 lookup_defs = 0
+
+-- and `unfolding width_defs` those of the bytes of pilots and slots
+unfoldable pub width_defs : ℕ
+unfolding pilot_len slot_len when◌then◌else◌
+width_defs = 0

@@ -1,4 +1,6 @@
-// An opened record and a builder's as sixteen numbers, and an answer as six: written, and read back.
+// An opened record and a builder's as sixteen numbers, and an answer as six: written, and read back. Functions and no
+// `From`: records and arrays are of other crates, where no impl may stand here, and those of the records know nothing
+// of the C interface, whose places these are.
 #![tactic(auto)]
 
 ghost use Rattle.std.specs.Prelude.{◌≡◌};
@@ -37,6 +39,7 @@ pub fn write_record(o: Opened, out: &mut [u64; 16])
 }
 
 // Could these sixteen numbers be a record that an opening wrote?
+#[tactic(auto, unfolding(crate::specs::Numbers::is_record_numbers, num::specs::Choice::choice_defs))]
 pub fn is_record_numbers(numbers: &[u64; 16]) -> bool
     ensures { result ≡ is_record_numbers numbers.now }
 {
@@ -45,6 +48,7 @@ pub fn is_record_numbers(numbers: &[u64; 16]) -> bool
 }
 
 // The record that sixteen numbers are.
+#[tactic(auto, unfolding(crate::specs::Numbers::opened_of))]
 pub fn read_record(numbers: &[u64; 16]) -> Opened
     ensures { result ≡ opened_of numbers.now }
 {
@@ -115,13 +119,16 @@ pub fn write_builder(b: Builder, out: &mut [u64; 16])
 }
 
 // Are the last four places 0, as in every record that an add wrote?
+#[tactic(auto, unfolding(crate::specs::BuilderNumbers::is_builder_numbers, num::specs::Choice::choice_defs))]
 fn is_builder(numbers: &[u64; 16]) -> bool
     ensures { result ≡ is_builder_numbers numbers.now }
 {
     (numbers[12] == 0) & ((numbers[13] == 0) & ((numbers[14] == 0) & (numbers[15] == 0)))
 }
 
-// The used bytes; more than any area has, if the numbers are no record.
+// The used bytes; more than any area has, if the numbers are no record: no `Option`, since question 37
+// refuses such a record in its turn, and no entry asks twice.
+#[tactic(auto, unfolding(crate::specs::BuilderNumbers::used_in, num::specs::Choice::choice_defs))]
 fn used_in(numbers: &[u64; 16]) -> u64
     ensures { result ≡ used_in numbers.now }
 {
@@ -133,6 +140,7 @@ fn used_in(numbers: &[u64; 16]) -> u64
 }
 
 // The builder's record that sixteen numbers are.
+#[tactic(auto, unfolding(crate::specs::BuilderNumbers::builder_in))]
 pub fn read_builder(numbers: &[u64; 16]) -> Builder
     ensures { result ≡ builder_in numbers.now }
 {

@@ -59,3 +59,8 @@ RecordExactly = (s : List ℕ) (o : Opened) → (is_record_of s o ≡ true) ↔ 
 unfoldable pub opened_defs : ℕ
 unfolding same_encoding same_counts same_record_of plain_for packed_of is_record_of
 opened_defs = 0
+
+-- and `unfolding flag_defs` the question of a packed record
+unfoldable pub flag_defs : ℕ
+unfolding packed_of flags_of arena_below both
+flag_defs = 0

@@ -1,4 +1,5 @@
-// Question 24: whether the bytes of a section, plain or packed, give an opened record. Crate `held` asks the same in fewer instructions.
+// Question 24: whether the bytes of a section, plain or packed, give an opened record. Crate `held` asks the same in
+// fewer instructions. Section and record are no view here: that they belong together is what is asked.
 #![tactic(auto)]
 
 ghost use Rattle.std.specs.Prelude.{◌≡◌};
@@ -10,7 +11,7 @@ use header::Opened;
 use num::LittleEndian;
 
 // Question 24 of a packed record.
-#[tactic(auto, using(header::proofs::Questions::begins_long, header::proofs::Questions::dimensions_hold, crate::proofs::Same::eq_same), unfolding(crate::specs::Opened::packed_of, header::specs::Header::flags_of, header::specs::Header::arena_below, num::specs::Choice::both))]
+#[tactic(auto, using(header::proofs::Questions::begins_long, header::proofs::Questions::dimensions_hold, crate::proofs::Same::eq_same), unfolding(crate::specs::Opened::flag_defs))]
 fn is_packed(section: &[u8], o: Opened) -> bool
     ensures { result ≡ packed_of section.now o }
 {

@@ -2,8 +2,9 @@
 use Rattle.std.specs.Prelude.{ℕ, List, length, Result, Ok, Err}
 use Rattle.std.proofs.lemmas.List.Edits.{sets}
 use Rattle.refusal.specs.declared.Refusal.{Refusal}
+use Rattle.refusal.specs.Refusal.{answer_number}
 use Rattle.header.specs.declared.Opened.{Opened}
-use Rattle.packing.specs.Packing.{PackedForm}
+use Rattle.packing.specs.Packing.{PackedForm, packed_read}
 use Rattle.numbers.specs.Numbers.{record_numbers}
 
 -- the record behind an opening: its sixteen numbers, or what stood there
@@ -20,3 +21,8 @@ packed_record_written (Err n) before = before
 unfoldable pub packed_len_written : Result PackedForm Refusal → ℕ → ℕ
 packed_len_written (Ok p) before = length p.bytes
 packed_len_written (Err n) before = before
+
+-- for proofs alone: `unfolding packed_defs` opens what a packed opening answers and writes
+unfoldable pub packed_defs : ℕ
+unfolding answer_number packed_read packed_record_written packed_len_written
+packed_defs = 0

@@ -1,34 +1,17 @@
--- Stores: the bytes of a number one by one, a part copied, runs of stores one behind the other, and stores into a tail that was lent on.
+-- Stores: runs of stores one behind the other, and stores into a tail that was lent on.
 -- Assumes nothing.
-use mathlib.Core.Path.{◌≡◌, refl, sym, ap, ◌∙◌}
-use mathlib.Core.Bool.{true}
-use mathlib.Core.List.{List, [], ◌∷◌, ◌++◌, append_assoc}
-use Prim.Native.Nat.{ℕ, suc, ◌+◌, ◌-◌, ◌/◌, ◌%◌, ◌<◌, ◌≤◌}
+use mathlib.Core.Path.{◌≡◌, refl, ap, ◌∙◌}
+use mathlib.Core.List.{List, ◌++◌, append_assoc}
+use Prim.Native.Nat.{ℕ, ◌+◌, ◌≤◌}
 use native.Mathlib.Nat.{zero-add}
 use native.Mathlib.Omega.{arith}
-use lib.ListN.{length, get_or, set, take, drop, length-append}
-use lib.Seq.{sets, sets-eq, length-sets}
-use Rattle.num.specs.Choice.{one_of}
-use Rattle.num.specs.Number.{le_bytes}
-use Rattle.num.proofs.Choice.{one_of-case}
-use Rattle.num.proofs.Copy.{copy_step}
-use Rattle.num.proofs.Lists.{part_length, part_append}
+use lib.ListN.{length, length-append}
+use lib.Seq.{sets, length-sets}
 use Rattle.num.proofs.Stores.{behind, tail_of, tail_put, sets_tail}
-
--- what is copied to the front, and the rest as before
-pub front_copied : (out part : List ℕ) (n : ℕ) → n ≤ length out → length part ≡ n → part ++ drop n out ≡ sets out 0 part
-front_copied out part n h e = sym (sets-eq part out 0 (omega arith) ∙ ap (λ (k : ℕ). part ++ drop k out) (zero-add (length part) ∙ e))
 
 -- a run of stores and the one behind it are one run
 pub sets_first : (out w v l : List ℕ) (a b : ℕ) → a + length w ≡ b → w ++ v ≡ l → sets (sets out a w) b v ≡ sets out a l
 sets_first out w v l a b e p = behind out (sets out a w) (sets (sets out a w) b v) w v a b e refl refl ∙ ap (sets out a) p
-
--- a width that is four or eight
-pub eight_most : (w : ℕ) → one_of (4 ∷ 8 ∷ []) w ≡ true → w ≤ 8
-eight_most w e = one_of-case (λ n. n ≤ 8) _ w e (omega arith, (omega arith, tt))
-
-pub not_four : (w : ℕ) → one_of (4 ∷ 8 ∷ []) w ≡ true → (w ≡ 4 → ⊥) → w ≡ 8
-not_four w e n = one_of-case (λ k. w ≡ k → w ≡ 8) _ w e ((λ q. absurd (n q)), ((λ q. q), tt)) refl
 
 -- ---- a tail that was lent on
 

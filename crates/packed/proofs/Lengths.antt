@@ -105,3 +105,17 @@ module _ (s : List ℕ) (o : Opened) (h : Header s o) where
 pub accepted_places : (s : List ℕ) (o p : Opened) (end : ℕ) → header_of s ≡ Ok o → p ≡ packed_record o → end ≡ arena_end_of s o
     → (p.arena + (end - o.arena) + trailer_len ≡ length (packed_bytes s o)) × (length (packed_bytes s o) ≤ length s) × (o.arena ≤ end) × (end + trailer_len ≤ length s)
 accepted_places s o p end e f g = packed_places s o (header_facts s o e) p end f g
+
+pub accepted_end : (s : List ℕ) (o : Opened) (end : ℕ) → header_of s ≡ Ok o → end ≡ arena_end_of s o → (o.arena ≤ end) × (end + 5 ≤ length s)
+accepted_end s o end e g = let n = packed_places s o (header_facts s o e) _ end refl g in (n.2, n.3)
+
+pub accepted_slots : (s : List ℕ) (o : Opened) → header_of s ≡ Ok o → header_len + 4 * o.buckets + o.count * (o.encoding.address + 2) ≤ length s
+accepted_slots s o e = slots_fit s o (header_facts s o e)
+
+-- a slot lies in the section, and its address among the packed ones
+pub slot_inside : (s : List ℕ) (o : Opened) → header_of s ≡ Ok o → (i : ℕ) → i < o.count
+    → (header_len + 4 * o.buckets + i * (o.encoding.address + 2) + (o.encoding.address + 2) ≤ length s)
+    × (i * o.encoding.address + o.encoding.address ≤ o.count * o.encoding.address)
+slot_inside s o e i l =
+    let h = accepted_slots s o e in
+    (omega (arith, entry_inside i o.count (o.encoding.address + 2) l), entry_inside i o.count o.encoding.address l)

@@ -1,7 +1,7 @@
 -- The writers, turn by turn: what is left to write from a turn on gives the same as what was left before it.
 -- Assumes nothing.
-use mathlib.Core.Path.{◌≡◌, sym, ap, ap₂, ◌∙◌}
-use mathlib.Core.List.{List, ◌++◌}
+use mathlib.Core.Path.{◌≡◌, refl, sym, ap, ◌∙◌}
+use mathlib.Core.List.{List, ◌++◌, append_assoc}
 use Prim.Native.Nat.{ℕ, suc, ◌+◌, ◌*◌, ◌-◌, ◌<◌, ◌≤◌}
 use native.Mathlib.Nat.{add-mul}
 use native.Mathlib.Omega.{arith}
@@ -10,13 +10,12 @@ use lib.Seq.{sets, take_all, length-take-le}
 use Rattle.num.specs.Number.{le_bytes}
 use Rattle.num.proofs.Lists.{part_length}
 use Rattle.num.proofs.Number.{length_le_bytes}
-use Rattle.num.proofs.Stores.{tail_of, tail_put}
 use Rattle.encoding.specs.Encoding.{header_len, trailer_len}
 use Rattle.header.specs.declared.Opened.{Opened}
 use Rattle.header.specs.Header.{arena_end_of, packed_record}
 use Rattle.header.specs.Facts.{Header}
 use Rattle.packed.specs.Packed.{pilot_at, pack_pilot, packed_pilots, slot_address_of, packed_addresses, arena_bytes, packed_bytes}
-use Rattle.packed.proofs.Laws.{sets_first, two_behind, five_lists}
+use Rattle.packed.proofs.Laws.{sets_first, five_lists}
 use Rattle.packed.proofs.Lengths.{length_pilots, length_address, length_addresses, slots_fit, length_last, packed_arena_lem, packed_places}
 
 module _ (s : List ℕ) where
@@ -60,7 +59,7 @@ module _ (s : List ℕ) (o : Opened) (h : Header s o) (p : Opened) (end : ℕ) (
   arena = take (end - o.arena) (drop o.arena s)
 
   abbrev last : List ℕ
-  last = take trailer_len (drop (length s - trailer_len) s)
+  last = drop (length s - trailer_len) s
 
   length_tables : length tables ≡ p.arena
   length_tables =
@@ -79,19 +78,22 @@ module _ (s : List ℕ) (o : Opened) (h : Header s o) (p : Opened) (end : ℕ) (
   runs : tables ++ (arena ++ last) ≡ packed_bytes s o
   unfolding packed_bytes arena_bytes
   runs =
-      let z = drop (length s - trailer_len) s in
-      let n : length z ≤ trailer_len = omega (arith, length_last s o h) in
-      ap₂ (λ (m : ℕ) (y : List ℕ). tables ++ (take (m - o.arena) (drop o.arena s) ++ y)) f (take_all trailer_len z n)
-      ∙ five_lists (take header_len s) (packed_pilots s 0 o.buckets) (packed_addresses s o 0 o.count) (arena_bytes s o) z
+      ap (λ (m : ℕ). tables ++ (take (m - o.arena) (drop o.arena s) ++ last)) f
+      ∙ five_lists (take header_len s) (packed_pilots s 0 o.buckets) (packed_addresses s o 0 o.count) (arena_bytes s o) last
 
-  pub packed_written_lem : (out x l₂ l₃ : List ℕ) → length (packed_bytes s o) ≤ length out
+  pub packed_written_lem : (out x l₂ l₃ : List ℕ)
       → x ≡ sets out 0 (take header_len s ++ (packed_pilots s 0 o.buckets ++ packed_addresses s o 0 o.count))
-      → l₂ ≡ sets (tail_of p.arena x) 0 (take (end - o.arena) (drop o.arena s))
-      → l₃ ≡ sets (tail_of (p.arena + (end - o.arena)) (tail_put p.arena x l₂)) 0 (take trailer_len (drop (length s - trailer_len) s))
-      → tail_put (p.arena + (end - o.arena)) (tail_put p.arena x l₂) l₃ ≡ sets out 0 (packed_bytes s o)
-  packed_written_lem out x l₂ l₃ room a b c =
+      → l₂ ≡ sets x p.arena (take (end - o.arena) (drop o.arena s))
+      → l₃ ≡ sets l₂ (p.arena + (end - o.arena)) (take (length s - (length s - trailer_len)) (drop (length s - trailer_len) s))
+      → l₃ ≡ sets out 0 (packed_bytes s o)
+  packed_written_lem out x l₂ l₃ a b c =
       let n = packed_places s o h p end e f in
       let i = part_length s o.arena (end - o.arena) (omega arith) in
-      let j = part_length s (length s - trailer_len) trailer_len (omega arith) in
-      two_behind out x l₂ l₃ tables arena last p.arena (p.arena + (end - o.arena)) a length_tables (ap (λ (k : ℕ). p.arena + k) i) (omega arith) b c
+      let t = length_tables in
+      c
+      ∙ ap (sets l₂ (p.arena + (end - o.arena))) (take_all (length s - (length s - trailer_len)) last (omega (arith, length_last s o h)))
+      ∙ ap (λ (y : List ℕ). sets y (p.arena + (end - o.arena)) last)
+      (b ∙ ap (λ (y : List ℕ). sets y p.arena arena) a ∙ sets_first out tables arena (tables ++ arena) 0 p.arena (omega arith) refl)
+      ∙ sets_first out (tables ++ arena) last (tables ++ (arena ++ last)) 0 (p.arena + (end - o.arena))
+      (omega (arith, length-append tables arena)) (append_assoc tables arena last)
       ∙ ap (sets out 0) runs

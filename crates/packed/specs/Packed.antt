@@ -43,3 +43,8 @@ packed_bytes s o =
 unfoldable pub packed_defs : ℕ
 unfolding pilot_at pack_pilot packed_pilots slot_address_of packed_addresses arena_bytes packed_bytes
 packed_defs = 0
+
+-- and `unfolding pilot_defs` that of one pilot
+unfoldable pub pilot_defs : ℕ
+unfolding pack_pilot is_direct direct_slot when◌then◌else◌
+pilot_defs = 0

@@ -3,7 +3,7 @@ use Rattle.std.specs.Prelude.{ℕ, ◌^◌, List, Bool, leb, ltb, length, Result
 use Rattle.std.proofs.lemmas.List.Edits.{sets}
 use Rattle.refusal.specs.declared.Refusal.{Refusal}
 use Rattle.refusal.specs.declared.Refusal.TheVariants as refusal
-use Rattle.num.specs.Choice.{ask◌otherwise◌then◌, each_below}
+use Rattle.num.specs.Choice.{when◌then◌else◌, ask◌otherwise◌then◌, both, either, each_below}
 use Rattle.point.specs.Hash.{direct_slot}
 use Rattle.header.specs.declared.Opened.{Opened}
 use Rattle.header.specs.Header.{fits_packed, packed_record}
@@ -60,3 +60,13 @@ packed_written (Err n) before = before
 unfoldable pub packing_defs : ℕ
 unfolding pilot_packs pilots_pack packed_for pack_of pack_for open_packed_of packed_read packed_written
 packing_defs = 0
+
+-- `unfolding pack_defs` those behind the header, with choices
+unfoldable pub pack_defs : ℕ
+unfolding pack_of pilots_pack packed_for packed_read packed_written when◌then◌else◌ both either
+pack_defs = 0
+
+-- and `unfolding open_defs` the opening by its header
+unfoldable pub open_defs : ℕ
+unfolding open_packed_of pack_for packed_read packed_written
+open_defs = 0

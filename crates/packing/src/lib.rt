@@ -9,6 +9,7 @@ ghost use Rattle.packing.specs.Packing.{pilot_packs, pack_of, open_packed_of, pa
 use encoding::Encoding;
 use header::Opened;
 use num::LittleEndian;
+use packed::Plain;
 use refusal::{Refusal, ask};
 
 // Question 8 of one pilot.
@@ -20,7 +21,8 @@ fn pilot_packs(section: &[u8], k: usize) -> bool
     pilot % point::DIRECT < 0x80_0000
 }
 
-// Question 8.
+// Question 8: the loop of `opening::PilotTable::pilots_inside`, but of another test, which a closure would say in more
+// words than the loop has. No `all`, as there.
 fn pilots_pack(section: &[u8], buckets: usize) -> bool
     requires { 64 + 4 * buckets ≤ length section.now }
     ensures { result ≡ each_below buckets (pilot_packs section.now) }
@@ -33,8 +35,10 @@ fn pilots_pack(section: &[u8], buckets: usize) -> bool
     true
 }
 
-// Questions 7 to 9, then 10 to 23, of a section whose header passed: the packed bytes are written only if all of them passed.
-#[tactic(auto, using(opening::proofs::Accepted::pilots_fit), unfolding(crate::specs::Packing::pack_of, crate::specs::Packing::pilots_pack, crate::specs::Packing::packed_for, crate::specs::Packing::packed_read, crate::specs::Packing::packed_written, num::specs::Choice::choice_defs))]
+// Questions 7 to 9, then 10 to 23, of a section whose header passed: the packed bytes are written only if all of them
+// passed. The header's answer and the store's parts come one by one, as `opening::contents` takes them; a view of two
+// of them, `packed::Plain`, is made behind 7 and 8.
+#[tactic(auto, using(opening::proofs::Accepted::pilots_fit), unfolding(crate::specs::Packing::pack_defs))]
 fn pack(
     section: &[u8],
     data: &[u8],
@@ -44,21 +48,25 @@ fn pack(
     o: Opened,
 ) -> Result<(Opened, usize), Refusal>
     requires { header_of section.now ≡ Ok o }
-    ensures value { result ≡ packed_read (pack_of section.now «data».now blocks.now (length scratch.old) (length output.old) o) }
-    ensures output_after { output.new ≡ packed_written (pack_of section.now «data».now blocks.now (length scratch.old) (length output.old) o) output.old }
+    ensures value { result ≡ packed_read
+        (pack_of section.now «data».now blocks.now (length scratch.old) (length output.old) o) }
+    ensures output_after { output.new ≡ packed_written
+        (pack_of section.now «data».now blocks.now (length scratch.old) (length output.old) o) output.old }
     ensures scratch_len_unchanged { length scratch.new ≡ length scratch.old }
 {
     ask(header::fits_packed(o), Refusal::NotPackable)?;
     ask(pilots_pack(section, o.buckets), Refusal::PilotWide)?;
-    let len = packed::packed_len(section, o);
+    let plain = Plain::new(section, o);
+    let len = plain.packed_len();
     ask(len <= output.len(), Refusal::PackedRoom)?;
     opening::contents(section, data, blocks, scratch, o)?;
-    packed::write_packed(section, o, output);
+    plain.write_packed(output);
     Ok((header::packed_record(o), len))
 }
 
-// The packed opening: the packed bytes of a section beside backing data and a block list, or the first question that fails.
-#[tactic(auto, using(opening::proofs::Accepted::checked_header), unfolding(crate::specs::Packing::open_packed_of, crate::specs::Packing::pack_for, crate::specs::Packing::packed_read, crate::specs::Packing::packed_written))]
+// The packed opening: the packed bytes of a section beside backing data and a block list, or the first question that
+// fails.
+#[tactic(auto, using(opening::proofs::Accepted::checked_header), unfolding(crate::specs::Packing::open_defs))]
 pub fn open_packed(
     section: &[u8],
     data: &[u8],
@@ -66,8 +74,10 @@ pub fn open_packed(
     scratch: &mut [u8],
     output: &mut [u8],
 ) -> Result<(Opened, usize), Refusal>
-    ensures value { result ≡ packed_read (open_packed_of section.now «data».now blocks.now (length scratch.old) (length output.old)) }
-    ensures output_after { output.new ≡ packed_written (open_packed_of section.now «data».now blocks.now (length scratch.old) (length output.old)) output.old }
+    ensures value { result ≡ packed_read
+        (open_packed_of section.now «data».now blocks.now (length scratch.old) (length output.old)) }
+    ensures output_after { output.new ≡ packed_written
+        (open_packed_of section.now «data».now blocks.now (length scratch.old) (length output.old)) output.old }
     ensures scratch_len_unchanged { length scratch.new ≡ length scratch.old }
 {
     let o = opening::checked_header(section)?;

@@ -1,5 +1,4 @@
 use mathlib.Core.Path.{sym, ap, ◌∙◌}
-use native.Mathlib.Omega.{arith}
 use borrow.Author.Tests.{eq-eqb, ne_eqb}
 use Rattle.num.specs.Choice.{both}
 use Rattle.num.proofs.Choice.{both_no, both_yes, if_true, if_false}
@@ -14,8 +13,18 @@ returns-then-not-begins c =
     both_no _ _ (sym c.begins.ensures ∙ c.if-not-begins.true)
     ∙ held_exactly c.args.section.now c.args.numbers.now
 
-pub widths_hold-requires : goal.widths_hold-requires
-widths_hold-requires c = let l = (begins_yes _ (sym c.begins.ensures ∙ c.if-not-begins.false)).long in omega arith
+pub invariant_of-asked : goal.invariant_of-asked
+invariant_of-asked c = record { long = (begins_yes _ (sym c.begins.ensures ∙ c.if-not-begins.false)).long }
+
+pub invariant_of-fitting : goal.invariant_of-fitting
+invariant_of-fitting c =
+    let w = hold_widths _ _ (sym c.widths_hold.ensures ∙ c.if-not-widths_hold.false) in
+    record { dimensions = fit_dimensions _ (sym c.counts_fit.ensures ∙ c.if-not-counts_fit.false) w }
+
+pub invariant_of-fitting-2 : goal.invariant_of-fitting-2
+invariant_of-fitting-2 c =
+    let w = hold_widths _ _ (sym c.widths_hold.ensures ∙ c.if-not-widths_hold.false) in
+    record { dimensions = fit_dimensions _ (sym c.counts_fit.ensures ∙ c.if-not-counts_fit.false) w }
 
 pub returns-then-not-widths_hold : goal.returns-then-not-widths_hold
 unfolding holds_of HeldExactly
@@ -33,9 +42,7 @@ returns-then-not-counts_fit c =
     ∙ held_exactly c.args.section.now c.args.numbers.now
 
 pub header_says-requires : goal.header_says-requires
-header_says-requires c =
-    let l = (begins_yes _ (sym c.begins.ensures ∙ c.if-not-begins.false)).long in
-    record { in_bounds = omega arith; numbers_value = sym c.counts_fit.ensures ∙ c.if-not-counts_fit.false }
+header_says-requires c = sym c.counts_fit.ensures ∙ c.if-not-counts_fit.false
 
 pub returns-then-not-header_says : goal.returns-then-not-header_says
 unfolding holds_of HeldExactly
@@ -46,13 +53,6 @@ returns-then-not-header_says c =
     (both_no _ _ (sym c.header_says.ensures ∙ c.if-not-header_says.true))))
     ∙ held_exactly c.args.section.now c.args.numbers.now
 
-pub plain_holds-requires : goal.plain_holds-requires
-plain_holds-requires c =
-    let l = (begins_yes _ (sym c.begins.ensures ∙ c.if-not-begins.false)).long in
-    let w = hold_widths _ _ (sym c.widths_hold.ensures ∙ c.if-not-widths_hold.false) in
-    let f = sym c.counts_fit.ensures ∙ c.if-not-counts_fit.false in
-    record { dimensions = fit_dimensions _ f w; in_bounds = l }
-
 pub returns-then-numbers-eq0 : goal.returns-then-numbers-eq0
 unfolding holds_of HeldExactly
 returns-then-numbers-eq0 c =
@@ -62,13 +62,6 @@ returns-then-numbers-eq0 c =
     (both_yes _ _ _ (sym c.header_says.ensures ∙ c.if-not-header_says.false)
     (c.plain_holds.ensures ∙ ap (both _) (sym (if_true _ _ _ (eq-eqb _ 0 c.if-numbers-eq0.true)))))))
     ∙ held_exactly c.args.section.now c.args.numbers.now
-
-pub packed_holds-requires : goal.packed_holds-requires
-packed_holds-requires c =
-    let l = (begins_yes _ (sym c.begins.ensures ∙ c.if-not-begins.false)).long in
-    let w = hold_widths _ _ (sym c.widths_hold.ensures ∙ c.if-not-widths_hold.false) in
-    let f = sym c.counts_fit.ensures ∙ c.if-not-counts_fit.false in
-    record { dimensions = fit_dimensions _ f w; in_bounds = l }
 
 pub returns : goal.returns
 unfolding holds_of HeldExactly

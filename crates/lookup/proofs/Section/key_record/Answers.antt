@@ -2,7 +2,7 @@ use mathlib.Core.Path.{◌∙◌}
 use native.Mathlib.Omega.{arith}
 use Rattle.opened.proofs.Records.{record_facts}
 use Rattle.lookup.proofs.Tests.{said_yes, said_no}
-use Rattle.lookup.proofs.Places.{record_widths, arena_inside}
+use Rattle.lookup.proofs.Places.{arena_inside}
 use Rattle.lookup.proofs.KeyRecords.{other_length, anchor_outside, anchor_inside, other_anchor, suffix_outside, other_suffix, same_key}
 use Rattle.lookup.proofs.Section.key_record.Goals as goal
 
@@ -55,21 +55,16 @@ returns-then-not-same_part c =
     let inside = said_yes c.inside.ensures c.if-not-inside.false in
     other_anchor _ _ _ _ _ _ len start inside (said_no c.same_part.ensures c.if-not-same_part.true)
 
-pub key_header-requires : goal.key_header-requires
-key_header-requires c =
-    let pre = c.requires in
-    record_widths _ _ (record_facts _ _ c.args.self.now.given)
-
 pub overflow_add-suffix : goal.overflow_add-suffix
 overflow_add-suffix c =
     let pre = c.requires in
-    let header = c.key_header in
+    let header = c.key_header_len in
     omega (arith, pre.encoding_in_bounds, header.ensures)
 
 pub overflow_sub-section-2 : goal.overflow_sub-section-2
 overflow_sub-section-2 c =
     let pre = c.requires in
-    let header = c.key_header in
+    let header = c.key_header_len in
     omega (arith, pre.encoding_in_bounds, header.ensures)
 
 pub returns-then-section-suffix : goal.returns-then-section-suffix
@@ -79,14 +74,14 @@ returns-then-section-suffix c =
     let len = c.if-key-shared.false in
     let inside = said_yes c.inside.ensures c.if-not-inside.false in
     let front = said_yes c.same_part.ensures c.if-not-same_part.false in
-    let header = c.key_header in
+    let header = c.key_header_len in
     suffix_outside _ _ _ _ _ _ len start inside front header.result header.ensures (omega (arith, pre.encoding_in_bounds, header.ensures)) c.if-section-suffix.true
 
 pub same_part-requires-2 : goal.same_part-requires-2
 same_part-requires-2 c =
     let pre = c.requires in
     let len = c.if-key-shared.false in
-    let header = c.key_header in
+    let header = c.key_header_len in
     (omega (arith, len), omega (arith, pre.encoding_in_bounds, header.ensures))
 
 pub returns-then-not-same_part-2 : goal.returns-then-not-same_part-2
@@ -96,7 +91,7 @@ returns-then-not-same_part-2 c =
     let len = c.if-key-shared.false in
     let inside = said_yes c.inside.ensures c.if-not-inside.false in
     let front = said_yes c.same_part.ensures c.if-not-same_part.false in
-    let header = c.key_header in
+    let header = c.key_header_len in
     let behind = c.if-section-suffix.false in
     other_suffix _ _ _ _ _ _ len start inside front header.result header.ensures (omega (arith, pre.encoding_in_bounds, header.ensures)) behind
     (said_no c.same_part-2.ensures c.if-not-same_part-2.true)
@@ -104,16 +99,16 @@ returns-then-not-same_part-2 c =
 pub overflow_add-suffix-2 : goal.overflow_add-suffix-2
 overflow_add-suffix-2 c =
     let pre = c.requires in
-    let header = c.key_header in
+    let header = c.key_header_len in
     let behind = c.if-section-suffix.false in
     omega (arith, pre.encoding_in_bounds, header.ensures, behind)
 
 pub versions_from-requires : goal.versions_from-requires
 versions_from-requires c =
     let pre = c.requires in
-    let header = c.key_header in
+    let header = c.key_header_len in
     let behind = c.if-section-suffix.false in
-    record { widths = record_widths _ _ (record_facts _ _ c.args.self.now.given); from_in_bounds = omega (arith, pre.encoding_in_bounds, header.ensures, behind) }
+    omega (arith, pre.encoding_in_bounds, header.ensures, behind)
 
 pub returns : goal.returns
 returns c =
@@ -122,7 +117,7 @@ returns c =
     let len = c.if-key-shared.false in
     let inside = said_yes c.inside.ensures c.if-not-inside.false in
     let front = said_yes c.same_part.ensures c.if-not-same_part.false in
-    let header = c.key_header in
+    let header = c.key_header_len in
     let behind = c.if-section-suffix.false in
     c.versions_from.ensures
     ∙ same_key _ _ _ _ _ _ len start inside front header.result header.ensures (omega (arith, pre.encoding_in_bounds, header.ensures)) behind

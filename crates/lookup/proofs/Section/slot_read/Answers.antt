@@ -6,10 +6,6 @@ use Rattle.lookup.proofs.Tests.{said_yes, said_no}
 use Rattle.lookup.proofs.Places.{record_widths, slot_len_le, address_le, slot_outside, other_fingerprint, slot_names_lem}
 use Rattle.lookup.proofs.Section.slot_read.Goals as goal
 
-pub slot_len-requires : goal.slot_len-requires
-slot_len-requires c =
-    record_widths _ _ (record_facts _ _ c.args.self.now.given)
-
 pub overflow_add-at : goal.overflow_add-at
 overflow_add-at c =
     let size = c.slot_len.ensures in
