@@ -1,13 +1,13 @@
 -- What a key record that is entered says, and where it leaves the cursor.
 -- Assumes nothing.
-use mathlib.Core.Path.{◌≡◌, refl, ap, subst}
+use mathlib.Core.Path.{◌≡◌, ap, subst}
 use mathlib.Core.List.{List}
 use mathlib.Core.Bool.{Bool, true, false}
 use Prim.Native.Nat.{ℕ, ◌+◌, ◌<◌, ◌≤◌}
 use native.Mathlib.Omega.{arith}
 use borrow.Author.Tests.{leb-true, ltb-true}
-use Rattle.std.specs.Prelude.{Result, Ok, Err}
-use Rattle.refusal.specs.declared.Refusal.{Refusal}
+use Rattle.std.specs.Prelude.{Ok}
+use Rattle.refusal.proofs.Asked.{asked}
 use Rattle.num.specs.Choice.{when◌then◌else◌}
 use Rattle.num.proofs.Choice.{both_true, if_case}
 use Rattle.point.specs.Hash.{hash_value}
@@ -24,15 +24,6 @@ pub inside_asked : (o : Opened) (end : ℕ) (c : Cursor) → key_inside_of o end
 unfolding key_inside_of
 inside_asked o end c t = let b = both_true _ _ t in (ltb-true _ _ b.0, leb-true _ _ b.1)
 
-pub refused_went : {A : Type 0} (n : Refusal) (d : Cursor) → Err n ≡ Ok d → A
-refused_went n d e = absurd (let z : ◌≡◌ {A = ℕ} 0 1 = cc in omega arith)
-
--- what goes on was not refused by the question
-pub passed : (b : Bool) (v : Result Cursor Refusal) (n : Refusal) (d : Cursor) → when◌then◌else◌ b v (Err n) ≡ Ok d → (b ≡ true) × (v ≡ Ok d)
-unfolding when◌then◌else◌
-passed true v n d e = (refl, e)
-passed false v n d e = refused_went n d e
-
 -- a key record that passes questions 16 to 19, and the cursor behind its suffix
 pub record Entered (s : List ℕ) (o : Opened) (end : ℕ) (c : Cursor) (previous key : List ℕ) (d : Cursor) : Type 0 where
   pub fewer : c.groups < o.count
@@ -47,11 +38,11 @@ pub key_entered : (s : List ℕ) (o : Opened) (end : ℕ) (c : Cursor) (previous
     → key_of s o end c previous key ≡ Ok d → Entered s o end c previous key d
 unfolding key_of key_for
 key_entered s o end c previous key d t =
-    let p = passed _ _ _ d t in
-    let f = passed _ _ _ d p.1 in
-    let r = passed _ _ _ d f.1 in
-    let n = passed _ _ _ d r.1 in
-    let l = passed _ _ _ d n.1 in
+    let p = asked _ _ _ d t in
+    let f = asked _ _ _ d p.1 in
+    let r = asked _ _ _ d f.1 in
+    let n = asked _ _ _ d r.1 in
+    let l = asked _ _ _ d n.1 in
     let i = inside_asked o end c p.0 in
     let e : entered o c (key_header_at s o.encoding c.pos) (prefix_changes s o c previous key) ≡ d = let w = l.1 in cc in
     record {

@@ -3,10 +3,8 @@
 use mathlib.Core.Path.{◌≡◌, ap}
 use mathlib.Core.Bool.{true, not}
 use Prim.Native.Nat.{ℕ, ◌+◌, ◌*◌, ◌%◌, ◌<◌, ◌≤◌}
-use lib.Dec.{eqb, leb}
 use borrow.Author.Tests.{leb-true, le-leb, ltb-true, lt-ltb, eqb-true, eq-eqb, not-false}
-use Rattle.num.specs.Choice.{either}
-use Rattle.num.proofs.Choice.{both_true, true_both, same_truth, either_second, second_either}
+use Rattle.num.proofs.Choice.{both_true, true_both, either_second, second_either}
 use Rattle.sstable.specs.Limits.{max_key_bytes}
 use Rattle.encoding.specs.Encoding.{group, key_header_len_of, version_len_of}
 use Rattle.header.specs.declared.Opened.{Opened}
@@ -52,20 +50,3 @@ fits o end c h f =
     (true_both _ _ (le-leb _ _ f.suffix)
     (true_both _ _ (lt-ltb _ _ f.some_version)
     (true_both _ _ (le-leb _ _ f.versions) (le-leb _ _ f.short))))))
-
--- the last test of question 16, where the others are passed
-pub fits_last : (o : Opened) (end : ℕ) (c : Cursor) (h : KeyHeader)
-    → either (not (at_anchor c)) (eqb h.shared 0) ≡ true
-    → h.anchor ≡ anchor_of o c
-    → h.shared ≤ anchor_len_of c h
-    → c.pos + key_header_len_of o.encoding + h.suffix_len ≤ end
-    → 0 < h.versions
-    → c.pos + key_header_len_of o.encoding + h.suffix_len + h.versions * version_len_of o.encoding ≤ end
-    → leb (h.shared + h.suffix_len) max_key_bytes ≡ key_fits_of o end c h
-unfolding key_fits_of
-fits_last o end c h u a s x v n =
-    same_truth _ _
-    (λ t. true_both _ _ u
-    (true_both _ _ (eq-eqb _ _ a)
-    (true_both _ _ (le-leb _ _ s) (true_both _ _ (le-leb _ _ x) (true_both _ _ (lt-ltb _ _ v) (true_both _ _ (le-leb _ _ n) t))))))
-    (λ t. le-leb _ _ (fitting o end c h t).short)

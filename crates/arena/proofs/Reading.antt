@@ -1,7 +1,6 @@
 -- Where the walk of the arena reads, and how large the numbers are that it finds.
 -- Assumes nothing.
-use mathlib.Core.Path.{◌≡◌, refl, sym, ap, ◌∙◌}
-use mathlib.Core.Logic.{⊎_elim}
+use mathlib.Core.Path.{◌≡◌, refl, sym, ap, ◌∙◌, subst⁻¹}
 use mathlib.Core.List.{List, [], ◌∷◌}
 use mathlib.Core.Bool.{Bool, true, false}
 use Prim.Native.Nat.{ℕ, ◌+◌, ◌*◌, ◌-◌, ◌^◌, ◌<◌, ◌≤◌}
@@ -10,18 +9,18 @@ use native.Mathlib.Omega.{arith}
 use lib.Dec.{leb}
 use lib.ListN.{length}
 use borrow.Author.Tests.{leb-true, leb-false, le-leb, lt-leb}
-use Rattle.num.specs.Choice.{when◌then◌else◌, either, one_of}
+use Rattle.num.specs.Choice.{either, one_of}
 use Rattle.num.specs.Number.{Bytes, le_at, is_width}
-use Rattle.num.proofs.Choice.{if_case, one_of-case}
+use Rattle.num.proofs.Choice.{one_of-case}
 use Rattle.num.proofs.Number.{le_at-lt}
 use Rattle.num.proofs.Parts.{entry_inside}
 use Rattle.point.specs.Hash.{bucket_of, slot_of}
 use Rattle.point.proofs.Slots.{bucket_lt, slot_lt}
 use Rattle.encoding.specs.declared.Encoding.{Encoding}
 use Rattle.encoding.specs.Encoding.{Widths, buckets_of, arena_start_of, version_len_of}
-use Rattle.encoding.proofs.Widths.{widths_le}
 use Rattle.header.specs.declared.Opened.{Opened}
 use Rattle.arena.specs.declared.Cursor.{Cursor}
+use Rattle.arena.specs.declared.KeyHeader.{KeyHeader}
 use Rattle.arena.specs.Key.{key_header_at, pilot_place, slot_place}
 use Rattle.arena.specs.Internal.{Readable, Inside, Standing, Narrow}
 
@@ -37,13 +36,21 @@ widths_read e w = (
   one_of-case (λ n. is_width n ≡ true) (2 ∷ 4 ∷ []) e.value w.value (refl, (refl, tt)),
 )
 
--- a version is at most 24 bytes long
-pub version_le : (e : Encoding) → Widths e → version_len_of e ≤ 24
-unfolding version_len_of
-version_le e w =
-    let h = widths_le e w in
-    let c : when◌then◌else◌ e.checksum 4 0 ≤ 4 = if_case (λ n. n ≤ 4) e.checksum 4 0 (λ _. omega arith) (λ _. omega arith) in
-    omega arith
+-- each of them alone
+pub address_width : (e : Encoding) → Widths e → is_width e.address ≡ true
+address_width e w = (widths_read e w).0
+
+pub key_width : (e : Encoding) → Widths e → is_width e.key ≡ true
+key_width e w = (widths_read e w).1
+
+pub count_width : (e : Encoding) → Widths e → is_width e.count ≡ true
+count_width e w = (widths_read e w).2
+
+pub seq_width : (e : Encoding) → Widths e → is_width e.seq ≡ true
+seq_width e w = (widths_read e w).3
+
+pub value_width : (e : Encoding) → Widths e → is_width e.value ≡ true
+value_width e w = (widths_read e w).4
 
 -- a number of at most four bytes
 four_bytes : (s : List ℕ) (at w : ℕ) → Bytes s → one_of (1 ∷ 2 ∷ 4 ∷ []) w ≡ true → le_at s at w < 2 ^ 32
@@ -61,6 +68,9 @@ key_header_narrow s e pos b w =
       versions = four_bytes s _ _ b w.count;
     }
 
+pub narrow_for : (s : List ℕ) (e : Encoding) (pos : ℕ) (h : KeyHeader) → Bytes s → Widths e → h ≡ key_header_at s e pos → Narrow h
+narrow_for s e pos h b w z = subst⁻¹ Narrow z (key_header_narrow s e pos b w)
+
 module _ (s : List ℕ) (o : Opened) (r : Readable s o) where
   -- there is a bucket
   pub some_bucket : 0 < o.buckets
@@ -76,6 +86,12 @@ module _ (s : List ℕ) (o : Opened) (r : Readable s o) where
   pub pilot_inside : (h : ℕ) → pilot_place o h + 4 ≤ 64 + 4 * o.buckets
   unfolding pilot_place
   pilot_inside h = let l = bucket_lt h o.buckets some_bucket in omega arith
+
+  -- the pilot of a bucket, which is read before that, and the slots behind all pilots
+  pub pilot_read : (h b : ℕ) → b ≡ bucket_of h o.buckets
+      → (64 + 4 * b + 4 ≤ 64 + 4 * o.buckets) × (64 + 4 * o.buckets ≤ o.arena) × (o.arena < length s)
+  unfolding pilot_place
+  pilot_read h b e = (omega (arith, pilot_inside h, e), omega (arith, slots_end), r.arena_inside)
 
   -- the slot that a hash's pilot names is one of n
   pub named_slot : (h : ℕ) → slot_of h (le_at s (pilot_place o h) 4) o.count < o.count
@@ -94,11 +110,11 @@ module _ (s : List ℕ) (o : Opened) (r : Readable s o) where
   pub scan_address_inside : (k : ℕ) → (o.scan ≡ 0 → ⊥) → k < o.count → o.scan + 24 + k * o.encoding.address + o.encoding.address ≤ length s
   scan_address_inside k n h =
       let p = entry_inside k o.count o.encoding.address h in
-      ⊎_elim (λ z. absurd (n z)) (λ l. omega arith) r.scan_inside
+      omega (arith, r.scan_inside n)
 
   -- the scan header too
   pub scan_header_inside : (o.scan ≡ 0 → ⊥) → o.scan + 24 ≤ length s
-  scan_header_inside n = ⊎_elim (λ z. absurd (n z)) (λ l. omega arith) r.scan_inside
+  scan_header_inside n = omega (arith, r.scan_inside n)
 
 -- a cursor with a version to come stands at it
 pub inside_standing : (s : List ℕ) (o : Opened) (end : ℕ) (c : Cursor) → Inside s o end c → 1 ≤ c.remaining → Standing s o c

@@ -3,11 +3,25 @@
 
 ghost use Rattle.std.specs.Prelude.{◌≡◌, true, not, ◌+◌, ◌*◌, ◌^◌, ◌<◌, ◌≤◌, eqb, length, take};
 ghost use Rattle.num.specs.Choice.{when◌then◌else◌, either};
-ghost use Rattle.encoding.specs.Encoding.{Widths, key_header_len_of};
+ghost use Rattle.encoding.specs.Encoding.{key_header_len_of};
 ghost use Rattle.arena.specs.Internal.{Readable, Inside, Narrow};
-ghost use Rattle.arena.specs.Key.{key_header_at, at_anchor, anchor_of, anchor_len_of, key_inside_of, key_fits_of, key_rises, scan_names, slot_place, slot_names, prefix_changes, entered, key_of};
+ghost use Rattle.arena.specs.Key.{
+  key_header_at,
+  at_anchor,
+  anchor_of,
+  anchor_len_of,
+  key_inside_of,
+  key_fits_of,
+  key_rises,
+  scan_names,
+  slot_place,
+  slot_names,
+  prefix_changes,
+  entered,
+  key_of,
+};
 
-use encoding::Encoding;
+use encoding::{Encoding, Layout};
 use header::Opened;
 use num::LittleEndian;
 use refusal::{Refusal, ask};
@@ -30,7 +44,9 @@ pub struct Cursor {
     pub suffix_len: usize,
     // How often the scan prefix has changed, the first key counted.
     pub prefixes: usize,
-    // The sequence of the last version of the current key, unless the next one is its first.
+    // The sequence of the last version of the current key, unless the next one is its first. `last_seq` and `first` are
+    // no `Option`: the definitions take this record as their cursor, and question 20 as they put it asks `first` alone
+    // and then `last_seq`.
     pub last_seq: u64,
     pub first: bool,
 }
@@ -44,12 +60,17 @@ pub struct KeyHeader {
     pub versions: usize,
 }
 
-// The numbers of the key header at a place.
-pub fn key_header_at(section: &[u8], e: Encoding, pos: usize) -> KeyHeader
-    requires widths { Widths e }
-    requires e_in_bounds { pos + key_header_len_of e ≤ length section.now }
-    ensures { result ≡ key_header_at section.now e pos }
+// The numbers of the key header at a place; lengths and number of versions have four bytes at most. Section and place
+// stay two parameters here and below, since the numbers are read as they are stored, at a place and of a width:
+// `num::uint` takes them so. That the header lies in the section stays a clause too, of this function and of those in
+// `lookup` and `spans` that read on from it: each has it from another test, and a type of a place in the section would
+// be made for the one read behind each.
+#[tactic(auto, using(crate::proofs::Reading::widths_read, crate::proofs::Reading::key_width, crate::proofs::Reading::count_width, crate::proofs::Reading::narrow_for), unfolding(crate::specs::Key::key_header_at, encoding::specs::Encoding::key_header_len_of))]
+pub fn key_header_at(section: &[u8], layout: Layout, pos: usize) -> KeyHeader
+    requires in_bounds { pos + key_header_len_of layout.encoding ≤ length section.now }
+    ensures { (result ≡ key_header_at section.now layout.encoding pos) × Narrow result }
 {
+    let e = layout.encoding;
     let lengths = pos + e.address;
     KeyHeader {
         anchor: num::uint(section, pos, e.address) as usize,
@@ -59,212 +80,217 @@ pub fn key_header_at(section: &[u8], e: Encoding, pos: usize) -> KeyHeader
     }
 }
 
-// The address of the latest anchor's suffix, if this key's is at `suffix`.
-fn anchor_of(o: Opened, suffix: usize, c: Cursor) -> usize
-    requires { (suffix ≡ c.pos + key_header_len_of o.encoding) × (o.arena ≤ suffix) }
-    ensures { result ≡ anchor_of o c }
-{
-    if c.groups % Encoding::GROUP == 0 {
-        suffix - o.arena
-    } else {
-        c.anchor
+// The last key and this one stay two parameters of `key_rises`, `prefix_changes` and `key_record`: a struct of them
+// would be filled for one call and taken apart in the next.
+impl Cursor {
+    // Is the next key an anchor?
+    #[tactic(auto, unfolding(crate::specs::Key::at_anchor))]
+    fn at_anchor(self) -> bool
+        ensures { result ≡ at_anchor self }
+    {
+        self.groups % Encoding::GROUP == 0
+    }
+
+    // The length of the latest anchor's suffix, the next key included.
+    #[tactic(auto, unfolding(crate::specs::Key::anchor_len_of, num::specs::Choice::choice_defs))]
+    fn anchor_len_of(self, h: KeyHeader) -> usize
+        ensures { result ≡ anchor_len_of self h }
+    {
+        if self.at_anchor() {
+            h.suffix_len
+        } else {
+            self.anchor_len
+        }
+    }
+
+    // Question 17.
+    #[tactic(auto, unfolding(crate::specs::Key::key_rises, num::specs::Choice::choice_defs))]
+    fn key_rises(self, previous: &[u8], key: &[u8]) -> bool
+        ensures { result ≡ key_rises self previous.now key.now }
+    {
+        self.groups == 0 || sstable::key_less(previous, key)
+    }
+
+    // The prefixes counted so far, with this key's if it changes.
+    #[tactic(auto, unfolding(num::specs::Choice::choice_defs))]
+    fn counted(self, changes: bool) -> usize
+        requires { self.prefixes < 2 ^ 31 }
+        ensures { result ≡ (when changes then self.prefixes + 1 else self.prefixes) }
+    {
+        self.prefixes + usize::from(changes)
     }
 }
 
-// And its length.
-fn anchor_len_of(c: Cursor, h: KeyHeader) -> usize
-    ensures { result ≡ anchor_len_of c h }
-{
-    if c.groups % Encoding::GROUP == 0 {
-        h.suffix_len
-    } else {
-        c.anchor_len
-    }
-}
-
-// Question 16 before the key header is read.
-fn key_inside(o: Opened, end: usize, c: Cursor) -> bool
-    requires widths { Widths o.encoding }
-    requires pos_le_end { c.pos ≤ end }
-    ensures { result ≡ key_inside_of o end c }
-{
-    if o.count <= c.groups {
-        return false;
-    }
-    let e = o.encoding;
-    e.key_header() <= end - c.pos
-}
-
-// An anchor shares nothing.
-fn anchor_unshared(c: Cursor, shared: usize) -> bool
-    ensures { result ≡ either (not (at_anchor c)) (eqb shared 0) }
-{
-    if c.groups % Encoding::GROUP != 0 {
-        return true;
-    }
-    shared == 0
-}
-
-// Question 16 of the key header.
-fn key_fits(o: Opened, end: usize, c: Cursor, h: KeyHeader) -> bool
-    requires widths { Widths o.encoding }
-    requires narrow { Narrow h }
-    requires arena_le_pos { (o.arena ≤ c.pos) × (c.pos + key_header_len_of o.encoding ≤ end) }
-    ensures { result ≡ key_fits_of o end c h }
-{
-    if !anchor_unshared(c, h.shared) {
-        return false;
-    }
-    let e = o.encoding;
-    let suffix = c.pos + e.key_header();
-    if h.anchor != anchor_of(o, suffix, c) {
-        return false;
-    }
-    if anchor_len_of(c, h) < h.shared {
-        return false;
-    }
-    if end - suffix < h.suffix_len {
-        return false;
-    }
-    if h.versions == 0 {
-        return false;
-    }
-    if end - suffix - h.suffix_len < h.versions * e.version() {
-        return false;
-    }
-    h.shared + h.suffix_len <= sstable::MAX_KEY_BYTES
-}
-
-// Question 17.
-fn key_rises(c: Cursor, previous: &[u8], key: &[u8]) -> bool
-    ensures { result ≡ key_rises c previous.now key.now }
-{
-    if c.groups == 0 {
-        return true;
-    }
-    sstable::key_less(previous, key)
-}
-
-// Question 18.
-fn scan_names(section: &[u8], o: Opened, c: Cursor) -> bool
-    requires readable { Readable section.now o }
-    requires groups_lt_count { (c.groups < o.count) × (o.arena ≤ c.pos) }
-    ensures { result ≡ scan_names section.now o c }
-{
-    if o.scan == 0 {
-        return true;
-    }
-    let address = o.encoding.address;
-    let at = o.scan + Encoding::SCAN_HEADER + c.groups * address;
-    num::uint(section, at, address) == (c.pos - o.arena) as u64
-}
-
-// The place of the slot of a hash.
-fn slot_place(section: &[u8], o: Opened, h: u64) -> usize
-    requires { Readable section.now o }
-    ensures { result ≡ slot_place section.now o h }
-{
-    let bucket = point::bucket(h, o.buckets as u64) as usize;
-    let pilot = u32::read(section, Encoding::HEADER + 4 * bucket);
-    let slot = point::slot(h, pilot, o.count as u64) as usize;
-    Encoding::HEADER + 4 * o.buckets + slot * (o.encoding.address + 2)
-}
-
-// Question 19, by the key's hash.
-fn slot_names(section: &[u8], o: Opened, c: Cursor, h: u64) -> bool
-    requires readable { Readable section.now o }
-    requires arena_le_pos { o.arena ≤ c.pos }
-    ensures { result ≡ slot_names section.now o c h }
-{
-    let address = o.encoding.address;
-    let at = slot_place(section, o, h);
-    if num::uint(section, at, address) != (c.pos - o.arena) as u64 {
-        return false;
-    }
-    u16::read(section, at + address) == point::fingerprint(h)
-}
-
-// The first bytes of a key, at most as many as the count says.
+// The first bytes of a key, at most as many as the count says: `prefix_changes` takes them of two keys, which have the
+// count from one number, and of each it is this equation that its proof needs.
 fn cut(key: &[u8], count: usize) -> &[u8]
     ensures { result.now ≡ take count key.now }
 {
-    if key.len() <= count {
-        return key;
-    }
-    &key[0..count]
+    key.get(..count).unwrap_or(key)
 }
 
-// Does question 23 count a prefix at this key?
-#[tactic(auto, using(crate::proofs::Reading::scan_header_inside, num::proofs::Order::pointwise_bytes), unfolding(crate::specs::Key::prefix_changes, num::specs::Choice::choice_defs))]
-fn prefix_changes(section: &[u8], o: Opened, c: Cursor, previous: &[u8], key: &[u8]) -> bool
-    requires { Readable section.now o }
-    ensures { result ≡ prefix_changes section.now o c previous.now key.now }
-{
-    if o.scan == 0 {
-        return false;
-    }
-    if c.groups == 0 {
-        return true;
-    }
-    let count = u32::read(section, o.scan + 8) as usize;
-    cut(key, count) != cut(previous, count)
+// The arena of a section whose header passed questions 3 to 6 and whose pilots passed question 10, and where the walk
+// of it stands.
+#[derive(Clone, Copy)]
+pub struct Arena<'a> {
+    pub section: &'a [u8],
+    pub opened: Opened,
+    // The place where it ends.
+    pub end: usize,
+    pub cursor: Cursor,
+    pub ghost readable: { Readable section.now opened },
+    pub ghost inside: { Inside section.now opened end cursor },
 }
 
-// The prefixes counted so far, with this key's if it changes.
-fn counted(prefixes: usize, changes: bool) -> usize
-    requires { prefixes < 2 ^ 31 }
-    ensures { result ≡ (when changes then prefixes + 1 else prefixes) }
-{
-    if changes { prefixes + 1 } else { prefixes }
-}
-
-// The cursor behind a key header and its suffix.
-fn entered(o: Opened, c: Cursor, h: KeyHeader, changes: bool) -> Cursor
-    requires widths { Widths o.encoding }
-    requires arena_le_pos { (o.arena ≤ c.pos) × (c.pos + key_header_len_of o.encoding + h.suffix_len < 2 ^ 64) }
-    requires groups_bound { (c.groups < 2 ^ 31) × (c.prefixes < 2 ^ 31) }
-    ensures { result ≡ entered o c h changes }
-{
-    let e = o.encoding;
-    let suffix = c.pos + e.key_header();
-    Cursor {
-        pos: suffix + h.suffix_len,
-        groups: c.groups + 1,
-        remaining: h.versions,
-        anchor: anchor_of(o, suffix, c),
-        anchor_len: anchor_len_of(c, h),
-        shared: h.shared,
-        suffix,
-        suffix_len: h.suffix_len,
-        prefixes: counted(c.prefixes, changes),
-        last_seq: 0,
-        first: true,
+impl<'a> Arena<'a> {
+    // Other views have a method of this name too: what their widths follow from is another fact in each.
+    fn layout(&self) -> Layout
+        ensures { result.encoding ≡ self.now.opened.encoding }
+    {
+        Layout::new(self.opened.encoding)
     }
-}
 
-// Questions 16 to 19 at a key's first record.
-#[tactic(auto, using(crate::proofs::Entering::inside_asked, crate::proofs::Questions::fitting, crate::proofs::Reading::key_header_narrow), unfolding(crate::specs::Key::key_of, crate::specs::Key::key_for, num::specs::Choice::choice_defs))]
-pub fn key_record(
-    section: &[u8],
-    o: Opened,
-    end: usize,
-    c: Cursor,
-    previous: &[u8],
-    key: &[u8],
-) -> Result<Cursor, Refusal>
-    requires readable { Readable section.now o }
-    requires inside { Inside section.now o end c }
-    ensures { result ≡ key_of section.now o end c previous.now key.now }
-{
-    ask(key_inside(o, end, c), Refusal::KeyRecord)?;
-    let h = key_header_at(section, o.encoding, c.pos);
-    ask(key_fits(o, end, c, h), Refusal::KeyRecord)?;
-    ask(key_rises(c, previous, key), Refusal::KeyOrder)?;
-    ask(scan_names(section, o, c), Refusal::ScanAddress)?;
-    ask(
-        slot_names(section, o, c, point::hash(key, o.seed)),
-        Refusal::Slot,
-    )?;
-    let changes = prefix_changes(section, o, c, previous, key);
-    Ok(entered(o, c, h, changes))
+    // The address of the latest anchor's suffix, if the next key's stands at a place.
+    #[tactic(auto, unfolding(crate::specs::Key::key_defs, num::specs::Choice::choice_defs))]
+    fn anchor_of(&self, suffix: usize) -> usize
+        requires { suffix ≡ self.now.cursor.pos + key_header_len_of self.now.opened.encoding }
+        ensures { result ≡ anchor_of self.now.opened self.now.cursor }
+    {
+        if self.cursor.at_anchor() {
+            suffix - self.opened.arena
+        } else {
+            self.cursor.anchor
+        }
+    }
+
+    // Question 16 before the key header is read.
+    #[tactic(auto, using(crate::proofs::Reading::room_le), unfolding(crate::specs::Internal::inside_defs))]
+    fn key_inside(&self) -> bool
+        ensures { result ≡ key_inside_of self.now.opened self.now.end self.now.cursor }
+    {
+        let c = self.cursor;
+        c.groups < self.opened.count && self.layout().key_header() <= self.end - c.pos
+    }
+
+    // Question 16 of the key header.
+    #[tactic(auto, using(encoding::proofs::Lengths::version_le, crate::proofs::Reading::room_le), unfolding(crate::specs::Key::key_fits_of, sstable::specs::Limits::max_key_bytes, num::specs::Choice::choice_defs))]
+    fn key_fits(&self, h: KeyHeader) -> bool
+        requires narrow { Narrow h }
+        requires header { self.now.cursor.pos + key_header_len_of self.now.opened.encoding ≤ self.now.end }
+        ensures { result ≡ key_fits_of self.now.opened self.now.end self.now.cursor h }
+    {
+        let c = self.cursor;
+        let layout = self.layout();
+        let suffix = c.pos + layout.key_header();
+        let room = self.end - suffix;
+        (!c.at_anchor() || h.shared == 0)
+            && h.anchor == self.anchor_of(suffix)
+            && h.shared <= c.anchor_len_of(h)
+            && h.suffix_len <= room
+            && 0 < h.versions
+            && h.versions * layout.version() <= room - h.suffix_len
+            && h.shared + h.suffix_len <= sstable::MAX_KEY_BYTES
+    }
+
+    // Question 18.
+    #[tactic(auto, using(crate::proofs::Reading::scan_header_inside, crate::proofs::Reading::scan_address_inside, crate::proofs::Reading::widths_read), unfolding(crate::specs::Key::scan_names, num::specs::Choice::choice_defs))]
+    fn scan_names(&self) -> bool
+        requires { self.now.cursor.groups < self.now.opened.count }
+        ensures { result ≡ scan_names self.now.section.now self.now.opened self.now.cursor }
+    {
+        let o = self.opened;
+        let c = self.cursor;
+        if o.scan == 0 {
+            return true;
+        }
+        let address = o.encoding.address;
+        let at = o.scan + Encoding::SCAN_HEADER + c.groups * address;
+        num::uint(self.section, at, address) == (c.pos - o.arena) as u64
+    }
+
+    // The place of the slot of a hash. `lookup` finds it for packed sections too, by an opened record, which there is
+    // none of before the questions have passed.
+    #[tactic(auto, using(crate::proofs::Reading::some_bucket, crate::proofs::Reading::pilot_read))]
+    fn slot_place(&self, h: u64) -> usize
+        ensures { result ≡ slot_place self.now.section.now self.now.opened h }
+    {
+        let o = self.opened;
+        let bucket = point::bucket(h, o.buckets as u64) as usize;
+        let pilot = u32::read(self.section, Encoding::HEADER + 4 * bucket);
+        let slot = point::slot(h, pilot, o.count as u64) as usize;
+        Encoding::HEADER + 4 * o.buckets + slot * (o.encoding.address + 2)
+    }
+
+    // Question 19, by the key's hash.
+    #[tactic(auto, using(crate::proofs::Reading::slot_inside, crate::proofs::Reading::widths_read), unfolding(crate::specs::Key::slot_names, num::specs::Choice::choice_defs))]
+    fn slot_names(&self, h: u64) -> bool
+        ensures { result ≡ slot_names self.now.section.now self.now.opened self.now.cursor h }
+    {
+        let o = self.opened;
+        let address = o.encoding.address;
+        let at = self.slot_place(h);
+        num::uint(self.section, at, address) == (self.cursor.pos - o.arena) as u64
+            && u16::read(self.section, at + address) == point::fingerprint(h)
+    }
+
+    // Does question 23 count a prefix at this key?
+    #[tactic(auto, using(crate::proofs::Reading::scan_header_inside, num::proofs::Order::pointwise_bytes), unfolding(crate::specs::Key::prefix_changes, num::specs::Choice::choice_defs))]
+    fn prefix_changes(&self, previous: &[u8], key: &[u8]) -> bool
+        ensures { result ≡ prefix_changes self.now.section.now self.now.opened self.now.cursor previous.now key.now }
+    {
+        let o = self.opened;
+        if o.scan == 0 {
+            return false;
+        }
+        if self.cursor.groups == 0 {
+            return true;
+        }
+        let count = u32::read(self.section, o.scan + 8) as usize;
+        cut(key, count) != cut(previous, count)
+    }
+
+    // The cursor behind a key header and its suffix.
+    #[tactic(auto, unfolding(crate::specs::Key::entered))]
+    fn entered(&self, h: KeyHeader, changes: bool) -> Cursor
+        requires fewer { self.now.cursor.groups < self.now.opened.count }
+        requires suffix { self.now.cursor.pos + key_header_len_of self.now.opened.encoding + h.suffix_len
+            ≤ self.now.end }
+        ensures { result ≡ entered self.now.opened self.now.cursor h changes }
+    {
+        let c = self.cursor;
+        let suffix = c.pos + self.layout().key_header();
+        Cursor {
+            pos: suffix + h.suffix_len,
+            groups: c.groups + 1,
+            remaining: h.versions,
+            anchor: self.anchor_of(suffix),
+            anchor_len: c.anchor_len_of(h),
+            shared: h.shared,
+            suffix,
+            suffix_len: h.suffix_len,
+            prefixes: c.counted(changes),
+            last_seq: 0,
+            first: true,
+        }
+    }
+
+    // Questions 16 to 19 at a key's first record.
+    #[tactic(auto, using(crate::proofs::Entering::inside_asked, crate::proofs::Questions::fitting), unfolding(crate::specs::Key::key_of, crate::specs::Key::key_for, num::specs::Choice::choice_defs))]
+    pub fn key_record(&self, previous: &[u8], key: &[u8]) -> Result<Cursor, Refusal>
+        ensures { result
+            ≡ key_of self.now.section.now self.now.opened self.now.end self.now.cursor previous.now key.now }
+    {
+        let c = self.cursor;
+        ask(self.key_inside(), Refusal::KeyRecord)?;
+        let h = key_header_at(self.section, self.layout(), c.pos);
+        ask(self.key_fits(h), Refusal::KeyRecord)?;
+        ask(c.key_rises(previous, key), Refusal::KeyOrder)?;
+        ask(self.scan_names(), Refusal::ScanAddress)?;
+        ask(
+            self.slot_names(point::hash(key, self.opened.seed)),
+            Refusal::Slot,
+        )?;
+        let changes = self.prefix_changes(previous, key);
+        Ok(self.entered(h, changes))
+    }
 }

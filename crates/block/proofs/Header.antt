@@ -1,10 +1,10 @@
 -- Question 13 of one entry, and its plain terms.
 -- Assumes nothing.
-use mathlib.Core.Path.{◌≡◌, refl, ap, ◌∙◌, subst}
+use mathlib.Core.Path.{◌≡◌, refl, sym, ap, ◌∙◌, subst}
 use mathlib.Core.List.{List}
 use mathlib.Core.Bool.{true}
 use mathlib.Core.Logic.{◌↔◌}
-use Prim.Native.Nat.{ℕ, ◌+◌, ◌<◌, ◌^◌}
+use Prim.Native.Nat.{ℕ, ◌+◌, ◌<◌, ◌≤◌, ◌^◌}
 use native.Mathlib.Omega.{arith}
 use lib.Dec.{leb}
 use lib.ListN.{get_or}
@@ -73,3 +73,8 @@ entry_exactly s end pos h = (entry_facts s end pos h, facts_entry s end pos h)
 -- the shared length of an entry has 4 bytes
 pub shared_narrow : (s : List ℕ) (end pos : ℕ) (h : EntryHeader) → Bytes s → entry_header_of s end pos ≡ Ok h → h.shared < 2 ^ 32
 shared_narrow s end pos h b e = subst (λ (n : ℕ). n < 2 ^ 32) (entry_facts s end pos h e).shared (le_at-lt s b 4 (pos + 1))
+
+-- no sum of a record's places wraps
+pub record_sums : (s : List ℕ) (end pos : ℕ) (h : EntryHeader) → Bytes s → Ok h ≡ entry_header_of s end pos
+    → (pos + 21 + h.non_shared + h.value_len ≤ end) × (h.shared < 2 ^ 32)
+record_sums s end pos h b e = ((entry_facts s end pos h (sym e)).inside, shared_narrow s end pos h b (sym e))

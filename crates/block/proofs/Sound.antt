@@ -27,13 +27,13 @@ last_or_below P i n h p q = go (eqb i n) refl
 
 module _ (raw : List ℕ) (end : ℕ) where
   -- one restart offset more
-  pub restarts_more : (i : ℕ) → restarts_sound raw end i ≡ true → restart_sound raw end i ≡ true → restarts_sound raw end (i + 1) ≡ true
+  pub one_more : (i : ℕ) → restarts_sound raw end i ≡ true → restart_sound raw end i ≡ true → restarts_sound raw end (i + 1) ≡ true
   unfolding restarts_sound
-  restarts_more i p q = ap (restarts_sound raw end) (add-one i) ∙ true_both _ _ p q
+  one_more i p q = ap (restarts_sound raw end) (add-one i) ∙ true_both _ _ p q
 
-  pub restarts_none : restarts_sound raw end 0 ≡ true
+  pub none : restarts_sound raw end 0 ≡ true
   unfolding restarts_sound
-  restarts_none = refl
+  none = refl
 
   restarts_each : (n i : ℕ) → restarts_sound raw end n ≡ true → i < n → restart_sound raw end i ≡ true
   unfolding restarts_sound
@@ -48,8 +48,8 @@ module _ (raw : List ℕ) (end : ℕ) where
   restarts_all (suc n) h = true_both _ _ (restarts_all n (λ i l. h i (omega arith))) (h n (omega arith))
 
   -- one restart offset that is not sound is enough
-  pub restarts_unsound : (n i : ℕ) → i < n → restart_sound raw end i ≡ false → restarts_sound raw end n ≡ false
-  restarts_unsound n i h e = go (restarts_sound raw end n) refl
+  pub unsound : (n i : ℕ) → i < n → restart_sound raw end i ≡ false → restarts_sound raw end n ≡ false
+  unsound n i h e = go (restarts_sound raw end n) refl
     where
       go : (b : Bool) → restarts_sound raw end n ≡ b → restarts_sound raw end n ≡ false
       go true p = false_true (sym e ∙ restarts_each n i p h)

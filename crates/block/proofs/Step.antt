@@ -1,6 +1,6 @@
 -- One step of the walk: what `record_at` answers with the key, and where the record met lies.
 -- Assumes nothing.
-use mathlib.Core.Path.{◌≡◌, refl, sym, ap, ◌∙◌, subst}
+use mathlib.Core.Path.{◌≡◌, refl, sym, ap, ap₂, ◌∙◌, subst}
 use mathlib.Core.List.{List, ◌++◌}
 use Prim.Native.Nat.{ℕ, ◌+◌, ◌-◌, ◌<◌, ◌≤◌}
 use native.Mathlib.Omega.{arith}
@@ -41,6 +41,10 @@ answered_for s end pos keyLen r (Err x) p e = refused_ok e
 answered : (s : List ℕ) (end pos keyLen : ℕ) (r : Record) → record_at s end pos keyLen ≡ Ok r → Answered s end pos keyLen r
 unfolding record_at
 answered s end pos keyLen r e = answered_for s end pos keyLen r (entry_header_of s end pos) refl e
+
+-- what a view of the bytes answers
+pub record_in : (pos keyLen : ℕ) {s t : List ℕ} {m n : ℕ} {q : Result Record Refusal} → t ≡ s → n ≡ m → q ≡ record_at t n pos keyLen → record_at s m pos keyLen ≡ q
+record_in pos keyLen e f h = sym (h ∙ ap₂ (λ (u : List ℕ) (k : ℕ). record_at u k pos keyLen) e f)
 
 -- where a record that is answered lies
 pub record RecordInside (end pos keyLen : ℕ) (r : Record) : Type 0 where

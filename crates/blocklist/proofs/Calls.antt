@@ -20,7 +20,7 @@ use Rattle.opening.specs.Open.{block_bytes, pair_fits}
 use Rattle.opening.proofs.Pairs.{drop_pair}
 use Rattle.blocks.specs.declared.BlockRecord.{BlockRecord}
 use Rattle.blocks.specs.Blocks.{record_for, pair_record, records_from, fill_of, filled_read, filled_count, filled_places, find_of, found_place}
-use Rattle.blocks.specs.Internal.{asked_of}
+use Rattle.blocks.specs.Internal.{verdict_of}
 use Rattle.refusal.specs.Refusal.{refusal_number, answer_number}
 use Rattle.refusal.proofs.Asked.{ok_refused}
 use Rattle.block.specs.declared.BlockMeta.{BlockMeta}
@@ -93,10 +93,10 @@ module _ («data» blocks : List ℕ) (i : ℕ) where
       go (Err x) e = e ∙ ap (λ (r : Refusal). Err r) (verify_refused (block_bytes «data» offset len) x e)
 
   -- what is answered for the pair
-  passes_both : PairLies «data» blocks i → PairSound «data» blocks i → Ok tt ≡ asked_of asked
-  unfolding PairSound asked_of
+  passes_both : PairLies «data» blocks i → PairSound «data» blocks i → Ok tt ≡ verdict_of asked
+  unfolding PairSound verdict_of
   passes_both p s =
-      sym (ap asked_of (pair_passes «data» (begin_of blocks i) offset len s.0 p.begins p.finishes ((sound_exactly (block_bytes «data» offset len) s.0).1 s.1)))
+      sym (ap verdict_of (pair_passes «data» (begin_of blocks i) offset len s.0 p.begins p.finishes ((sound_exactly (block_bytes «data» offset len) s.0).1 s.1)))
 
   refused_11 : (PairLies «data» blocks i → ⊥) → asked ≡ Err refusal.BlockList
   refused_11 f = fails-11 «data» (begin_of blocks i) offset len (not_lies f)
@@ -120,12 +120,12 @@ module _ («data» blocks : List ℕ) (n : ℕ) (paired : length blocks ≡ 2 * 
       (asking_more «data» blocks (2 * i) (begin_of blocks i) a _ _ (drop_pair blocks (2 * i) (omega arith)) (2 * i + 2) tt refl (passes_both «data» blocks i here.0 here.1))
 
   -- its refusal is that of the list
-  stops : (i : ℕ) (x : Refusal) → i < n → PairsPass «data» blocks i → asked «data» blocks i ≡ Err x → Err x ≡ asked_of (records_from «data» blocks 0)
-  unfolding asked_of
-  stops i x l p e = asking_failed «data» blocks (2 * i) (begin_of blocks i) (asking_at i (omega arith) p) _ _ (drop_pair blocks (2 * i) (omega arith)) x (sym (ap asked_of e))
+  stops : (i : ℕ) (x : Refusal) → i < n → PairsPass «data» blocks i → asked «data» blocks i ≡ Err x → Err x ≡ verdict_of (records_from «data» blocks 0)
+  unfolding verdict_of
+  stops i x l p e = asking_failed «data» blocks (2 * i) (begin_of blocks i) (asking_at i (omega arith) p) _ _ (drop_pair blocks (2 * i) (omega arith)) x (sym (ap verdict_of e))
 
   -- if all pass, none is refused
-  passes : PairsPass «data» blocks n → Ok tt ≡ asked_of (records_from «data» blocks 0)
+  passes : PairsPass «data» blocks n → Ok tt ≡ verdict_of (records_from «data» blocks 0)
   passes p = asking_done «data» blocks (2 * n) (begin_of blocks n) (asking_at n (omega arith) p) (omega arith)
 
 module _ («data» blocks : List ℕ) (places : ℕ) where

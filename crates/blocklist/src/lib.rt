@@ -1,6 +1,2 @@
 // Theorems only: what filling a list of block records gives, and what is found in it.
 #![tactic(auto)]
-
-pub fn nothing() -> u64 {
-    0
-}

@@ -26,7 +26,7 @@ use Rattle.opening.specs.Open.{block_bytes, pair_fits}
 use Rattle.opening.proofs.Pairs.{part_cut}
 use Rattle.blocks.specs.declared.BlockRecord.{BlockRecord}
 use Rattle.blocks.specs.Blocks.{record_value, record_for, pair_record, with_record, records_from, no_record}
-use Rattle.blocks.specs.Internal.{asked_of, offset_at, len_at, bytes_at, record_at, Passed}
+use Rattle.blocks.specs.Internal.{verdict_of, offset_at, len_at, bytes_at, record_at, Passed}
 
 -- ---- the numbers of refusals
 
@@ -54,8 +54,8 @@ refuses_one (Ok a) p n e = ok_refused e
 refuses_one (Err k) p n e = subst (λ (m : Refusal). one_of (11 ∷ 12 ∷ []) (refusal_number m) ≡ true) (same_refusal e) p
 
 -- what was not refused is given
-pub asked_ok : {A : Type 0} (x : Result A Refusal) (u : Unit {0}) → Ok u ≡ asked_of x → (a : A) × (x ≡ Ok a)
-unfolding asked_of
+pub asked_ok : {A : Type 0} (x : Result A Refusal) (u : Unit {0}) → Ok u ≡ verdict_of x → (a : A) × (x ≡ Ok a)
+unfolding verdict_of
 asked_ok (Ok a) u e = (a, refl)
 asked_ok (Err n) u e = ok_refused e
 
@@ -104,18 +104,18 @@ module _ («data» : List ℕ) (at offset len : ℕ) where
 
   -- question 12 of the part of the data
   pub asked_12 : pair_fits (length «data») at offset len ≡ true → (v : Result BlockMeta Refusal) → v ≡ verify_of (take (offset + len - offset) (drop offset «data»))
-      → asked_of v ≡ asked_of (pair_record «data» at offset len)
-  unfolding pair_record record_for asked_of when◌then◌else◌
+      → verdict_of v ≡ verdict_of (pair_record «data» at offset len)
+  unfolding pair_record record_for verdict_of when◌then◌else◌
   asked_12 fits v e = rw (fits, ← part_cut «data» offset len, ← e) (go v)
     where
-      go : (v : Result BlockMeta Refusal) → asked_of v ≡ asked_of (record_for offset len v)
+      go : (v : Result BlockMeta Refusal) → verdict_of v ≡ verdict_of (record_for offset len v)
       go (Ok m) = refl
       go (Err n) = refl
 
 -- ---- the pairs from a place on
 
-with_number : (r : BlockRecord) (a : Result (List BlockRecord) Refusal) → asked_of (with_record r a) ≡ asked_of a
-unfolding asked_of with_record
+with_number : (r : BlockRecord) (a : Result (List BlockRecord) Refusal) → verdict_of (with_record r a) ≡ verdict_of a
+unfolding verdict_of with_record
 with_number r (Ok rs) = refl
 with_number r (Err n) = refl
 
@@ -150,12 +150,12 @@ module _ («data» : List ℕ) where
   behind_given pairs at (Err n) rs e = refused_ok e
 
   behind_number : (pairs : List ℕ) (at : ℕ) (a : Result BlockRecord Refusal) (r : BlockRecord) → a ≡ Ok r
-      → asked_of (behind pairs at a) ≡ asked_of (records_from «data» pairs at)
+      → verdict_of (behind pairs at a) ≡ verdict_of (records_from «data» pairs at)
   unfolding behind
   behind_number pairs at a r e = rw e (with_number r (records_from «data» pairs at))
 
-  behind_failed : (pairs : List ℕ) (at : ℕ) (a : Result BlockRecord Refusal) (n : Refusal) → Err n ≡ asked_of a → asked_of (behind pairs at a) ≡ Err n
-  unfolding behind asked_of
+  behind_failed : (pairs : List ℕ) (at : ℕ) (a : Result BlockRecord Refusal) (n : Refusal) → Err n ≡ verdict_of a → verdict_of (behind pairs at a) ≡ Err n
+  unfolding behind verdict_of
   behind_failed pairs at (Ok r) n h = refused_ok h
   behind_failed pairs at (Err k) n h = sym h
 
@@ -196,41 +196,41 @@ module _ («data» : List ℕ) where
 pub record Asking («data» blocks : List ℕ) (i at : ℕ) : Type 0 where
   pub even : i % 2 ≡ 0
   pub within : at ≤ length «data»
-  pub same : asked_of (records_from «data» (drop i blocks) at) ≡ asked_of (records_from «data» blocks 0)
+  pub same : verdict_of (records_from «data» (drop i blocks) at) ≡ verdict_of (records_from «data» blocks 0)
 
 module _ («data» blocks : List ℕ) where
   pub asking_start : Asking «data» blocks 0 0
   asking_start = record { even = refl; within = omega arith; same = refl }
 
   module _ (i at : ℕ) (p : Asking «data» blocks i at) where
-    pub asking_done : length blocks ≤ i → Ok tt ≡ asked_of (records_from «data» blocks 0)
-    unfolding records_from asked_of
-    asking_done h = sym (ap (λ (l : List ℕ). asked_of (records_from «data» l at)) (drop_of_length-le blocks {i = i} h)) ∙ p.same
+    pub asking_done : length blocks ≤ i → Ok tt ≡ verdict_of (records_from «data» blocks 0)
+    unfolding records_from verdict_of
+    asking_done h = sym (ap (λ (l : List ℕ). verdict_of (records_from «data» l at)) (drop_of_length-le blocks {i = i} h)) ∙ p.same
 
     module _ (offset len : ℕ) (h : drop i blocks ≡ offset ∷ len ∷ drop (i + 2) blocks) where
       abbrev asked : Result BlockRecord Refusal
       asked = pair_record «data» at offset len
 
-      from-pair : asked_of (behind «data» (drop (i + 2) blocks) (offset + len) asked) ≡ asked_of (records_from «data» blocks 0)
+      from-pair : verdict_of (behind «data» (drop (i + 2) blocks) (offset + len) asked) ≡ verdict_of (records_from «data» blocks 0)
       from-pair =
-          sym (ap asked_of (ap (λ (l : List ℕ). records_from «data» l at) h ∙ records_step «data» offset len (drop (i + 2) blocks) at))
+          sym (ap verdict_of (ap (λ (l : List ℕ). records_from «data» l at) h ∙ records_step «data» offset len (drop (i + 2) blocks) at))
           ∙ p.same
 
-      pub asking_failed : (n : Refusal) → Err n ≡ asked_of asked → Err n ≡ asked_of (records_from «data» blocks 0)
+      pub asking_failed : (n : Refusal) → Err n ≡ verdict_of asked → Err n ≡ verdict_of (records_from «data» blocks 0)
       asking_failed n e = sym (behind_failed «data» (drop (i + 2) blocks) (offset + len) asked n e) ∙ from-pair
 
-      pub asking_inside : (u : Unit {0}) → Ok u ≡ asked_of asked → offset + len ≤ length «data»
+      pub asking_inside : (u : Unit {0}) → Ok u ≡ verdict_of asked → offset + len ≤ length «data»
       asking_inside u z =
           let g = asked_ok asked u z in
           (pair_passed «data» at offset len g.0 g.1).1
 
-      pub asking_more : (next : ℕ) (u : Unit {0}) → i + 2 ≡ next → Ok u ≡ asked_of asked → Asking «data» blocks next (offset + len)
+      pub asking_more : (next : ℕ) (u : Unit {0}) → i + 2 ≡ next → Ok u ≡ verdict_of asked → Asking «data» blocks next (offset + len)
       asking_more next u n z =
           let g = asked_ok asked u z in
           record {
             even = omega (arith, p.even);
             within = asking_inside u z;
-            same = ap (λ (j : ℕ). asked_of (records_from «data» (drop j blocks) (offset + len))) (sym n) ∙ sym (behind_number «data» (drop (i + 2) blocks) (offset + len) asked g.0 g.1) ∙ from-pair;
+            same = ap (λ (j : ℕ). verdict_of (records_from «data» (drop j blocks) (offset + len))) (sym n) ∙ sym (behind_number «data» (drop (i + 2) blocks) (offset + len) asked g.0 g.1) ∙ from-pair;
           }
 
 -- ---- the records of the pairs

@@ -18,13 +18,13 @@ use Rattle.refusal.proofs.Asked.{refused_ok, ok_refused, same_ok, same_refusal, 
 use Rattle.num.specs.Choice.{when◌then◌else◌}
 use Rattle.blocks.specs.declared.BlockRecord.{BlockRecord}
 use Rattle.blocks.specs.Blocks.{records_from, placed_for, fill_of, filled_read, filled_places, no_record}
-use Rattle.blocks.specs.Internal.{asked_of, record_at, Passed, written_of}
+use Rattle.blocks.specs.Internal.{verdict_of, record_at, Passed, written_of}
 use Rattle.blocks.proofs.Pairs.{asked_ok, records_length, records_each}
 
 -- ---- the answer
 
-failed_answer : (places : ℕ) (a : Result (List BlockRecord) Refusal) (n : Refusal) → Err n ≡ asked_of a → Err n ≡ filled_read (placed_for places a)
-unfolding asked_of placed_for filled_read
+failed_answer : (places : ℕ) (a : Result (List BlockRecord) Refusal) (n : Refusal) → Err n ≡ verdict_of a → Err n ≡ filled_read (placed_for places a)
+unfolding verdict_of placed_for filled_read
 failed_answer places (Ok rs) n h = refused_ok h
 failed_answer places (Err k) n h = ap (λ (x : Refusal). Err x) (same_refusal h)
 
@@ -40,10 +40,10 @@ module _ («data» blocks : List ℕ) (places : ℕ) where
     unfolding fill_of when◌then◌else◌
     fill-even = rw even
 
-    pub fill_failed : (n : Refusal) → Err n ≡ asked_of (records_from «data» blocks 0) → Err n ≡ filled_read (fill_of «data» blocks places)
+    pub fill_failed : (n : Refusal) → Err n ≡ verdict_of (records_from «data» blocks 0) → Err n ≡ filled_read (fill_of «data» blocks places)
     fill_failed n e = failed_answer places (records_from «data» blocks 0) n e ∙ ap filled_read fill-even
 
-    module _ (u : Unit {0}) (all : Ok u ≡ asked_of (records_from «data» blocks 0)) where
+    module _ (u : Unit {0}) (all : Ok u ≡ verdict_of (records_from «data» blocks 0)) where
       all-given : (rs : List BlockRecord) × (records_from «data» blocks 0 ≡ Ok rs) × (length rs ≡ length blocks / 2)
       all-given =
           let g = asked_ok (records_from «data» blocks 0) u all in

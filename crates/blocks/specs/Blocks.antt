@@ -1,6 +1,7 @@
 -- A lent list of block records: filling asks 11 and 12 of all pairs, then 41; finding goes by offset
 -- (document 01, "a lent list of block records").
 use Rattle.std.specs.Prelude.{ℕ, ◌+◌, ◌%◌, List, [], ◌∷◌, ◌++◌, eqb, leb, length, drop, Result, Ok, Err, Option, Some, None, position, ◌==◌}
+use Rattle.refusal.specs.Refusal.{answer_left}
 use Rattle.refusal.specs.declared.Refusal.{Refusal}
 use Rattle.refusal.specs.declared.Refusal.TheVariants as refusal
 use Rattle.num.specs.Choice.{ask◌otherwise◌then◌}
@@ -68,8 +69,7 @@ filled_read (Err n) = Err n
 
 -- the count afterwards, for a caller that is given a number: how many records were written, or what stood there
 abbrev pub filled_count : Result ℕ Refusal → ℕ → ℕ
-filled_count (Ok n) before = n
-filled_count (Err n) before = before
+filled_count = answer_left
 
 -- the places afterwards: the records, then what stood behind them; on a refusal all that stood there
 unfoldable pub filled_places : Result (List BlockRecord) Refusal → List BlockRecord → List BlockRecord

@@ -4,12 +4,13 @@ use Rattle.refusal.specs.declared.Refusal.{Refusal}
 use Rattle.block.specs.Verify.{meta_of, SoundBlock}
 use Rattle.opening.specs.Open.{block_bytes}
 use Rattle.blocks.specs.declared.BlockRecord.{BlockRecord}
-use Rattle.blocks.specs.Blocks.{record_value}
+use Rattle.num.specs.Choice.{when◌then◌else◌, both, either}
+use Rattle.blocks.specs.Blocks.{record_value, pair_record, record_for, fill_of, filled_read}
 
 -- an answer without what it gives
-unfoldable pub asked_of : {A : Type 0} → Result A Refusal → Result (Unit {0}) Refusal
-asked_of (Ok a) = Ok tt
-asked_of (Err n) = Err n
+unfoldable pub verdict_of : {A : Type 0} → Result A Refusal → Result (Unit {0}) Refusal
+verdict_of (Ok a) = Ok tt
+verdict_of (Err n) = Err n
 
 -- offset and length of a pair
 unfoldable pub offset_at : List ℕ → ℕ → ℕ
@@ -35,3 +36,12 @@ pub record Passed («data» blocks : List ℕ) (i : ℕ) : Type 0 where
 unfoldable pub written_of : Result (List BlockRecord) Refusal → List BlockRecord
 written_of (Ok rs) = rs
 written_of (Err n) = []
+
+-- for proofs alone: what they open together
+unfoldable pub pair_defs : ℕ
+unfolding pair_record record_for verdict_of when◌then◌else◌ both either
+pair_defs = 0
+
+unfoldable pub fill_defs : ℕ
+unfolding fill_of filled_read when◌then◌else◌ both either
+fill_defs = 0

@@ -1,14 +1,12 @@
 -- What an accepted header and question 10 say of the walk's start.
 -- Assumes nothing.
-use mathlib.Core.Path.{◌≡◌, refl, sym, ap, ◌∙◌, subst⁻¹}
-use mathlib.Core.Logic.{◌⊎◌, inl, inr}
+use mathlib.Core.Path.{◌≡◌, sym, ap, ◌∙◌, subst⁻¹}
 use mathlib.Core.List.{List, []}
-use mathlib.Core.Bool.{Bool, true, false}
+use mathlib.Core.Bool.{true}
 use Prim.Native.Nat.{ℕ, ◌+◌, ◌*◌, ◌/◌, ◌%◌, ◌≤◌}
 use native.Mathlib.Omega.{arith}
-use lib.Dec.{eqb}
 use lib.ListN.{length}
-use borrow.Author.Tests.{eqb-true, eqb-false, eq-eqb}
+use borrow.Author.Tests.{eq-eqb}
 use Rattle.std.specs.Prelude.{Result, Ok, Err}
 use Rattle.refusal.specs.declared.Refusal.{Refusal}
 use Rattle.num.proofs.Choice.{if_true}
@@ -27,14 +25,6 @@ use Rattle.validate.specs.Internal.{inputs_with, progress_in, Ready}
 use Rattle.opening.specs.Internal.{ended_for}
 use Rattle.opening.proofs.Pilots.{pilots_each, pilot_slot}
 
--- the scan part's header lies in the section
-pub scan_header_inside : (s : List ℕ) (o : Opened) → Readable s o → (o.scan ≡ 0 → ⊥) → o.scan + scan_header_len ≤ length s
-scan_header_inside s o r n = go r.scan_inside
-  where
-    go : (o.scan ≡ 0) ⊎ (o.scan + scan_header_len + o.count * o.encoding.address ≤ length s) → o.scan + scan_header_len ≤ length s
-    go (inl e) = absurd (n e)
-    go (inr h) = omega arith
-
 module _ (s : List ℕ) (o : Opened) (e : header_of s ≡ Ok o) where
   facts : Header s o
   facts = header_facts s o e
@@ -43,12 +33,8 @@ module _ (s : List ℕ) (o : Opened) (e : header_of s ≡ Ok o) where
   pub pilots_fit : 64 + 4 * o.buckets ≤ length s
   pilots_fit = omega (arith, arena_start s o facts, facts.below)
 
-  scan_fits : (o.scan ≡ 0) ⊎ (o.scan + scan_header_len + o.count * o.encoding.address ≤ length s)
-  scan_fits = go (eqb o.scan 0) refl
-    where
-      go : (b : Bool) → eqb o.scan 0 ≡ b → (o.scan ≡ 0) ⊎ (o.scan + scan_header_len + o.count * o.encoding.address ≤ length s)
-      go true p = inl (eqb-true o.scan 0 p)
-      go false p = inr (omega (arith, scan_end s o facts (scan_part_lem s o facts (eqb-false o.scan 0 p))))
+  scan_fits : (o.scan ≡ 0 → ⊥) → o.scan + scan_header_len + o.count * o.encoding.address ≤ length s
+  scan_fits n = omega (arith, scan_end s o facts (scan_part_lem s o facts n))
 
   module _ (p : pilots_inside s o ≡ true) where
     -- a header that passed 3 to 6 with pilots that passed 10 can be read
@@ -63,7 +49,7 @@ module _ (s : List ℕ) (o : Opened) (e : header_of s ≡ Ok o) where
           buckets = d.halved;
           arena = facts.start ∙ ap (λ (b : ℕ). 64 + 4 * b + o.count * (o.encoding.address + 2)) d.halved;
           arena_inside = omega (arith, facts.below);
-          scan_inside = scan_fits;
+          scan_inside = λ n. scan_fits n;
           pilots = λ k h. pilot_slot s o k (pilots_each s o p k h);
         }
 
@@ -116,10 +102,10 @@ module _ (s «data» blocks : List ℕ) (scratch : ℕ) (o : Opened) where
 
         -- the walk ends
         pub contents_ended : (at : ℕ) (after : Carried) → r ≡ Ok (at, after)
-            → end_for (inputs_with s «data» o end 0) (Ok (record { at = at; progress = record { previous = []; cursor = after.cursor } })) ≡ contents_of s «data» blocks scratch o
+            → end_for (inputs_with s «data» o end (scratch / 2)) (Ok (record { at = at; progress = record { previous = []; cursor = after.cursor } })) ≡ contents_of s «data» blocks scratch o
         unfolding end_for ends_together prefixes_counted ended_for inputs_of progress_in
         contents_ended at after x =
-            ap (λ (n : ℕ). end_for (inputs_with s «data» o n 0) (Ok (record { at = at; progress = record { previous = []; cursor = after.cursor } }))) q
+            ap (λ (n : ℕ). end_for (inputs_with s «data» o n (scratch / 2)) (Ok (record { at = at; progress = record { previous = []; cursor = after.cursor } }))) q
             ∙ sym (ap (λ (y : Result (ℕ × Carried) Refusal). end_for (inputs_of s «data» scratch o) (ended_for (scratch / 2) left y)) x)
             ∙ walked
 

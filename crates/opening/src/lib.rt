@@ -1,13 +1,24 @@
 // Opening: whether a section, its backing data and its block list belong together, question by question.
 #![tactic(auto)]
 
-ghost use Rattle.std.specs.Prelude.{◌≡◌, true, [], ◌+◌, ◌*◌, ◌%◌, ◌≤◌, length, eqb, Ok};
+ghost use Rattle.std.specs.Prelude.{◌≡◌, [], ◌+◌, ◌*◌, ◌%◌, ◌<◌, ◌≤◌, length, Ok};
 ghost use Rattle.header.specs.Header.{header_of};
-ghost use Rattle.arena.specs.Internal.{Readable};
-ghost use Rattle.num.specs.Number.{le_at};
-ghost use Rattle.num.specs.Choice.{both, either};
-ghost use Rattle.opening.specs.Open.{pilot_inside_of, pilots_inside, start_at, block_asked, pair_fits, pairs_from, end_for, contents_of, checked_header_of, open_of};
-ghost use Rattle.validate.specs.Internal.{inputs_with, progress_in, Ready, BlockHeld, answer_for};
+ghost use Rattle.opening.specs.Open.{
+  pilot_inside_of,
+  pilots_inside,
+  start_at,
+  block_asked,
+  pair_fits,
+  pairs_from,
+  ends_together,
+  prefixes_counted,
+  end_for,
+  contents_of,
+  checked_header_of,
+  open_of,
+};
+ghost use Rattle.validate.specs.Internal.{progress_in, BlockHeld, answer_for};
+ghost use Rattle.validate.specs.Lent.{inputs_lent, ReadyFor};
 ghost use Rattle.opening.specs.Internal.{ended_for};
 
 use arena::Cursor;
@@ -15,92 +26,89 @@ use encoding::Encoding;
 use header::Opened;
 use num::LittleEndian;
 use refusal::{Refusal, ask};
-use validate::Carried;
+use validate::{Block, Carried, Inputs};
 
-// Question 10 of one pilot.
-fn pilot_inside(section: &[u8], o: Opened, k: usize) -> bool
-    requires { 64 + 4 * k + 4 ≤ length section.now }
-    ensures { result ≡ pilot_inside_of section.now o k }
-{
-    let pilot = u32::read(section, Encoding::HEADER + 4 * k);
-    if pilot < point::DIRECT {
-        return true;
-    }
-    ((pilot % point::DIRECT) as usize) < o.count
+// The pilots of a section whose header passed.
+#[derive(Clone, Copy)]
+struct PilotTable<'a> {
+    section: &'a [u8],
+    opened: Opened,
+    ghost within: { 64 + 4 * opened.buckets ≤ length section.now },
 }
 
-// Question 10.
-fn pilots_inside(section: &[u8], o: Opened) -> bool
-    requires { 64 + 4 * o.buckets ≤ length section.now }
-    ensures { result ≡ pilots_inside section.now o }
-{
-    for k in 0..o.buckets {
-        if !pilot_inside(section, o, k) {
-            return false;
+impl<'a> PilotTable<'a> {
+    // Question 10 of one pilot.
+    #[tactic(auto, unfolding(crate::specs::Internal::pilot_defs))]
+    fn pilot_inside(&self, k: usize) -> bool
+        requires { k < self.now.opened.buckets }
+        ensures { result ≡ pilot_inside_of self.now.section.now self.now.opened k }
+    {
+        let pilot = u32::read(self.section, Encoding::HEADER + 4 * k);
+        pilot < point::DIRECT || ((pilot % point::DIRECT) as usize) < self.opened.count
+    }
+
+    // Question 10.
+    fn pilots_inside(&self) -> bool
+        ensures { result ≡ pilots_inside self.now.section.now self.now.opened }
+    {
+        // No `all`: what it promises of a range is a list of the numbers that it met, and no proof from there closed.
+        for k in 0..self.opened.buckets {
+            if !self.pilot_inside(k) {
+                return false;
+            }
         }
+        true
     }
-    true
 }
 
-// Questions 12 to 21 of a block.
+// Questions 12 to 21 of the block at an offset of the data, which with its length is a pair of the list. That scratch
+// and state fit stays a clause here and in `open_blocks` (`ReadyFor`): `validate` says why.
 fn open_pair(
-    section: &[u8],
-    o: Opened,
-    end: usize,
-    data: &[u8],
+    inputs: &Inputs<'_>,
     offset: usize,
     len: usize,
     scratch: &mut [u8],
-    half: usize,
     w: Carried,
 ) -> Result<Carried, Refusal>
-    requires ready { Ready section.now o end half scratch.old w }
-    requires len_in_bounds { offset + len ≤ length «data».now }
-    ensures result_after { answer_for half scratch.new result ≡ block_asked (inputs_with section.now «data».now o end half) offset len (progress_in half scratch.old w) }
-    ensures block_held { BlockHeld half result }
+    requires ready { ReadyFor inputs.now scratch.old w }
+    requires len_in_bounds { offset + len ≤ length inputs.now.«data».now }
+    ensures result_after { answer_for inputs.now.half scratch.new result
+        ≡ block_asked (inputs_lent inputs.now) offset len (progress_in inputs.now.half scratch.old w) }
+    ensures block_held { BlockHeld inputs.now.half result }
 {
     let pair_end = offset + len;
-    let raw = &data[offset..pair_end];
+    let raw = &inputs.data[offset..pair_end];
     let meta = block::verify(raw)?;
-    validate::open_block(
-        section,
-        o,
-        end,
-        data,
+    let block = Block {
+        inputs: *inputs,
         offset,
         raw,
-        meta.entries_end,
-        scratch,
-        half,
-        w,
-    )
+        entries_end: meta.entries_end,
+    };
+    block.open(scratch, w)
 }
 
 // Question 11 of a pair behind a place of the data.
+#[tactic(auto, unfolding(crate::specs::Open::pair_fits, num::specs::Choice::choice_defs))]
 pub fn pair_fits(data_len: usize, at: usize, offset: usize, len: usize) -> bool
     requires { at ≤ data_len }
     ensures { result ≡ pair_fits data_len at offset len }
 {
-    if offset != at {
-        return false;
-    }
-    len <= data_len - at
+    offset == at && len <= data_len - at
 }
 
-// Questions 11 to 21 of the pairs, of which the list is made.
+// Questions 11 to 21 of the pairs, of which the list is made. List and scratch come one by one, as in `contents`: one
+// is read, the other is written.
 fn open_blocks(
-    section: &[u8],
-    o: Opened,
-    end: usize,
-    data: &[u8],
+    inputs: &Inputs<'_>,
     blocks: &[u64],
     scratch: &mut [u8],
-    half: usize,
     w: Carried,
 ) -> Result<(usize, Carried), Refusal>
-    requires ready { Ready section.now o end half scratch.old w }
+    requires ready { ReadyFor inputs.now scratch.old w }
     requires blocks_len { length blocks.now % 2 ≡ 0 }
-    ensures { ended_for half scratch.new result ≡ pairs_from (inputs_with section.now «data».now o end half) blocks.now 0 (progress_in half scratch.old w) }
+    ensures { ended_for inputs.now.half scratch.new result
+        ≡ pairs_from (inputs_lent inputs.now) blocks.now 0 (progress_in inputs.now.half scratch.old w) }
 {
     let mut carried = w;
     let mut at = 0;
@@ -108,60 +116,61 @@ fn open_blocks(
     for pair in pairs {
         let [offset, len] = *pair;
         let (offset, len) = (offset as usize, len as usize);
-        ask(pair_fits(data.len(), at, offset, len), Refusal::BlockList)?;
-        carried = open_pair(section, o, end, data, offset, len, scratch, half, carried)?;
+        ask(
+            pair_fits(inputs.data.len(), at, offset, len),
+            Refusal::BlockList,
+        )?;
+        carried = open_pair(inputs, offset, len, scratch, carried)?;
         at = offset + len;
     }
     Ok((at, carried))
 }
 
-// Question 22.
-#[tactic(auto, unfolding(num::specs::Choice::both))]
-fn ends_together(data_len: usize, at: usize, o: Opened, end: usize, c: Cursor) -> bool
-    ensures { result ≡ both (eqb at data_len) (both (eqb c.pos end) (both (eqb c.remaining 0) (eqb c.groups o.count))) }
-{
-    if at != data_len {
-        return false;
-    }
-    if c.pos != end {
-        return false;
-    }
-    if c.remaining != 0 {
-        return false;
-    }
-    c.groups == o.count
-}
-
-// Question 23.
-fn prefixes_counted(section: &[u8], o: Opened, c: Cursor) -> bool
-    requires { Readable section.now o }
-    ensures { result ≡ either (eqb o.scan 0) (eqb (le_at section.now (o.scan + 16) 8) c.prefixes) }
-{
-    if o.scan == 0 {
-        return true;
-    }
-    u64::read(section, o.scan + 16) == c.prefixes as u64
-}
-
-// Questions 22 and 23.
-#[tactic(auto, unfolding(crate::specs::Open::end_for, crate::specs::Open::ends_together, crate::specs::Open::prefixes_counted, num::specs::Choice::choice_defs))]
-fn finish(
-    section: &[u8],
-    data: &[u8],
-    o: Opened,
-    end: usize,
+// Where the pairs end in the data, and where the walk then stands.
+#[derive(Clone, Copy)]
+struct End<'a> {
+    inputs: Inputs<'a>,
     at: usize,
-    c: Cursor,
-) -> Result<Opened, Refusal>
-    requires { Readable section.now o }
-    ensures { result ≡ end_for (inputs_with section.now «data».now o end 0) (Ok (record { at = at; progress = record { previous = []; cursor = c } })) }
-{
-    ask(ends_together(data.len(), at, o, end, c), Refusal::Ends)?;
-    ask(prefixes_counted(section, o, c), Refusal::PrefixCount)?;
-    Ok(o)
+    cursor: Cursor,
+}
+
+impl<'a> End<'a> {
+    // Question 22.
+    #[tactic(auto, unfolding(crate::specs::Open::ends_together, num::specs::Choice::both))]
+    fn ends_together(&self) -> bool
+        ensures { result ≡ ends_together (inputs_lent self.now.inputs) self.now.at self.now.cursor }
+    {
+        let c = self.cursor;
+        self.at == self.inputs.data.len()
+            && c.pos == self.inputs.end
+            && c.remaining == 0
+            && c.groups == self.inputs.opened.count
+    }
+
+    // Question 23.
+    #[tactic(auto, using(arena::proofs::Reading::scan_header_inside), unfolding(crate::specs::Internal::prefix_defs))]
+    fn prefixes_counted(&self) -> bool
+        ensures { result ≡ prefixes_counted (inputs_lent self.now.inputs) self.now.cursor }
+    {
+        let scan = self.inputs.opened.scan;
+        scan == 0 || u64::read(self.inputs.section, scan + 16) == self.cursor.prefixes as u64
+    }
+
+    // Questions 22 and 23.
+    #[tactic(auto, unfolding(crate::specs::Open::end_for, num::specs::Choice::choice_defs))]
+    fn finish(&self) -> Result<Opened, Refusal>
+        ensures { result
+            ≡ end_for (inputs_lent self.now.inputs)
+            (Ok (record { at = self.now.at; progress = record { previous = []; cursor = self.now.cursor } })) }
+    {
+        ask(self.ends_together(), Refusal::Ends)?;
+        ask(self.prefixes_counted(), Refusal::PrefixCount)?;
+        Ok(self.inputs.opened)
+    }
 }
 
 // The walk's start: no keys, and the arena's start.
+#[tactic(auto, unfolding(crate::specs::Open::start_at))]
 fn start(o: Opened) -> Carried
     ensures { result ≡ record { key_len = 0; previous_len = 0; cursor = start_at o } }
 {
@@ -184,7 +193,9 @@ fn start(o: Opened) -> Carried
     }
 }
 
-// Questions 10 to 23 of a section whose header passed.
+// Questions 10 to 23 of a section whose header passed. Here and in `open` a store is lent in its parts, as the C
+// entries lend it: a struct of them would be filled by each caller for this one call. That the header passed stays a
+// clause too: callers have it from `checked_header`, whose promise it is.
 #[tactic(auto, unfolding(crate::specs::Open::contents_of, num::specs::Choice::choice_defs))]
 pub fn contents(
     section: &[u8],
@@ -197,12 +208,23 @@ pub fn contents(
     ensures value { result ≡ contents_of section.now «data».now blocks.now (length scratch.old) o }
     ensures scratch_len_unchanged { length scratch.new ≡ length scratch.old }
 {
-    ask(pilots_inside(section, o), Refusal::PilotSlot)?;
+    let pilots = PilotTable { section, opened: o };
+    ask(pilots.pilots_inside(), Refusal::PilotSlot)?;
     ask(blocks.len() % 2 == 0, Refusal::BlockList)?;
-    let end = header::arena_end(section, o);
-    let half = scratch.len() / 2;
-    let (at, w) = open_blocks(section, o, end, data, blocks, scratch, half, start(o))?;
-    finish(section, data, o, end, at, w.cursor)
+    let inputs = Inputs {
+        section,
+        opened: o,
+        end: header::arena_end(section, o),
+        data,
+        half: scratch.len() / 2,
+    };
+    let (at, w) = open_blocks(&inputs, blocks, scratch, start(o))?;
+    let end = End {
+        inputs,
+        at,
+        cursor: w.cursor,
+    };
+    end.finish()
 }
 
 // Questions 1 to 6: the trailer, then the header.
@@ -215,7 +237,7 @@ pub fn checked_header(section: &[u8]) -> Result<Opened, Refusal>
 }
 
 // The plain opening: the record of a section beside backing data and a block list, or the first question that fails.
-#[tactic(auto, using(crate::proofs::Accepted::checked_header), unfolding(crate::specs::Open::open_of, crate::specs::Open::contents_for))]
+#[tactic(auto, using(crate::proofs::Accepted::checked_header), unfolding(crate::specs::Internal::open_defs))]
 pub fn open(
     section: &[u8],
     data: &[u8],

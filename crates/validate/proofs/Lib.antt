@@ -1,3 +1,3 @@
 pub mod Entries
 pub mod Record
-pub mod Block
+pub mod BlockWalk

@@ -3,10 +3,10 @@
 use mathlib.Core.Path.{◌≡◌, refl, sym, ap, ◌∙◌}
 use mathlib.Core.List.{List, ◌++◌}
 use mathlib.Core.Bool.{Bool, true, false}
-use Prim.Native.Nat.{ℕ, ◌+◌, ◌-◌, ◌<◌, ◌≤◌}
+use Prim.Native.Nat.{ℕ, ◌+◌, ◌-◌, ◌≤◌}
 use native.Mathlib.Omega.{arith}
 use lib.Dec.{eqb, leb}
-use lib.ListN.{length, get_or, set, take, drop, length-append}
+use lib.ListN.{length, get_or, take, drop, length-append}
 use lib.Seq.{sets, length-take-le, take-take}
 use borrow.Author.Tests.{le-leb, eq-eqb, ne_eqb}
 use Rattle.num.specs.Choice.{when◌then◌else◌}
@@ -23,7 +23,7 @@ use Rattle.block.specs.Record.{record_at, record_at_for}
 use Rattle.refusal.specs.Refusal.{ask_of}
 use Rattle.std.specs.Result.{IsErrAnd}
 use Rattle.std.proofs.lemmas.Result.{err_from_is_err_and}
-use Rattle.refusal.proofs.Asked.{refused_ok}
+use Rattle.refusal.proofs.Asked.{refused_ok, same_refusal}
 use Rattle.block.specs.Walk.{Entry, entry_of}
 use Rattle.block.proofs.Step.{record_inside, step_met, step_stop, key_copied}
 use Rattle.header.specs.declared.Opened.{Opened}
@@ -38,32 +38,24 @@ use Rattle.validate.specs.Internal.{State, progress_of, asked_from, record_asked
 
 -- ---- question 13
 
-same_err : {A : Type 0} {x y : Refusal} → ◌≡◌ {A = Result A Refusal} (Err x) (Err y) → x ≡ y
-same_err e = cc
-
 -- what a `?` hands on
 pub handed_on : {A : Type 0} (r : Result A Refusal) (x : Refusal) → IsErrAnd r (λ y. y ≡ x) → r ≡ Err x
 handed_on r x is =
     let p = err_from_is_err_and r is in
     p.1 ∙ ap (λ (z : Refusal). Err z) p.2
 
--- a question that is answered with no, and one that is answered with yes
+-- a question that is answered with no
 pub answered_no : (b : Bool) (e x : Refusal) → Err x ≡ ask_of b e → (b ≡ false) × (x ≡ e)
 unfolding when◌then◌else◌
 answered_no true e x q = refused_ok q
-answered_no false e x q = (refl, same_err q)
-
-pub answered_yes : (b : Bool) (e : Refusal) (x : Unit {0}) → Ok x ≡ ask_of b e → b ≡ true
-unfolding when◌then◌else◌
-answered_yes true e x q = refl
-answered_yes false e x q = refused_ok (sym q)
+answered_no false e x q = (refl, same_refusal q)
 
 -- a question of 13 in front of an answer that only 13 refuses
 only_13 : {A : Type 0} (b : Bool) (r : Result A Refusal) (x : Refusal) → (when b then r else Err refusal.Entry) ≡ Err x
     → (r ≡ Err x → x ≡ refusal.Entry) → x ≡ refusal.Entry
 unfolding when◌then◌else◌
 only_13 true r x e h = h e
-only_13 false r x e h = sym (same_err e)
+only_13 false r x e h = sym (same_refusal e)
 
 kind_refused : (n : ℕ) (x : Refusal) → kind_of n ≡ Err x → x ≡ refusal.Entry
 unfolding kind_of when◌then◌else◌
@@ -72,7 +64,7 @@ kind_refused n x e = go (eqb n 1) (eqb n 2) e
     go : (a b : Bool) → (when a then Ok Put else when b then Ok Tombstone else Err refusal.Entry) ≡ Err x → x ≡ refusal.Entry
     go true b q = refused_ok (sym q)
     go false true q = refused_ok (sym q)
-    go false false q = sym (same_err q)
+    go false false q = sym (same_refusal q)
 
 header_refused : (s : List ℕ) (end pos : ℕ) (x : Refusal) → entry_header_of s end pos ≡ Err x → x ≡ refusal.Entry
 unfolding entry_header_of entry_header_kind entry_header_for
@@ -80,7 +72,7 @@ header_refused s end pos x e = only_13 _ _ x e (go (kind_of (get_or s pos 0)) (k
   where
     go : (k : Result Kind Refusal) → (k ≡ Err x → x ≡ refusal.Entry) → entry_header_kind s end pos k ≡ Err x → x ≡ refusal.Entry
     go (Ok k) h q = only_13 _ _ x q (λ p. only_13 _ _ x p (λ r. refused_ok (sym r)))
-    go (Err y) h q = h (ap (λ (z : Refusal). Err z) (same_err q))
+    go (Err y) h q = h (ap (λ (z : Refusal). Err z) (same_refusal q))
 
 -- an entry that does not stand is refused by 13
 record_refused : (s : List ℕ) (end pos keyLen : ℕ) (x : Refusal) → record_at s end pos keyLen ≡ Err x → x ≡ refusal.Entry
@@ -89,7 +81,7 @@ record_refused s end pos keyLen x e = go (entry_header_of s end pos) (header_ref
   where
     go : (h : Result EntryHeader Refusal) → (h ≡ Err x → x ≡ refusal.Entry) → record_at_for pos keyLen h ≡ Err x → x ≡ refusal.Entry
     go (Ok h) f q = only_13 _ _ x q (λ p. refused_ok (sym p))
-    go (Err y) f q = f (ap (λ (z : Refusal). Err z) (same_err q))
+    go (Err y) f q = f (ap (λ (z : Refusal). Err z) (same_refusal q))
 
 -- behind a record that was visited
 visited_at : ℕ → State → Entry → Result Cursor Refusal → Result (ℕ × State) Refusal
@@ -98,13 +90,18 @@ visited_at next st e v = asked_from next e.key (progress_for (progress_of st) e 
 -- ---- the keys in the scratch
 
 -- parts cut by their ends
-pub visit_parts : (s : List ℕ) (o : Opened) (end : ℕ) (c : Cursor) (scratch : List ℕ) (half p k seq : ℕ) (kind : Kind) (place : ℕ) (value : List ℕ)
-    → visit_of s o end c (take (half + p - half) (drop half scratch)) (record { key = take (k - 0) scratch; seq = seq; kind = kind; place = place; size = length value }) value
-    ≡ visit_of s o end c (take p (drop half scratch)) (record { key = take k scratch; seq = seq; kind = kind; place = place; size = length value }) value
-visit_parts s o end c scratch half p k seq kind place value =
+pub visit_parts : (s «data» : List ℕ) (o : Opened) (end : ℕ) (c : Cursor) (scratch : List ℕ) (half p k seq : ℕ) (kind : Kind) (place size : ℕ)
+    → place + size ≤ length «data»
+    → visit_of s o end c (take (half + p - half) (drop half scratch))
+    (record { key = take k scratch; seq = seq; kind = kind; place = place; size = length (take (place + size - place) (drop place «data»)) })
+    (take (place + size - place) (drop place «data»))
+    ≡ visit_of s o end c (take p (drop half scratch)) (record { key = take k scratch; seq = seq; kind = kind; place = place; size = size }) (take size (drop place «data»))
+visit_parts s «data» o end c scratch half p k seq kind place size h =
     let n : half + p - half ≡ p = omega arith in
-    let m : k - 0 ≡ k = omega arith in
-    λ i. visit_of s o end c (take (n i) (drop half scratch)) (record { key = take (m i) scratch; seq = seq; kind = kind; place = place; size = length value }) value
+    let m : place + size - place ≡ size = omega arith in
+    let l : length (take (place + size - place) (drop place «data»)) ≡ size =
+    ap (λ (j : ℕ). length (take j (drop place «data»))) m ∙ part_length «data» place size h in
+    λ i. visit_of s o end c (take (n i) (drop half scratch)) (record { key = take k scratch; seq = seq; kind = kind; place = place; size = l i }) (take (m i) (drop place «data»))
 
 -- the key that is copied behind its half
 pub key_kept : (s front back copy : List ℕ) (half count : ℕ) → count ≤ half → half + half ≤ length s → front ≡ take half s → back ≡ drop half s → copy ≡ take count front
@@ -140,7 +137,7 @@ held_length half scratch w l h = let k = h.key in length-take-le w.key_len scrat
 -- ---- the answers
 
 module _ (s «data» : List ℕ) (o : Opened) (end half offset : ℕ) (raw scratch : List ℕ) (w : Carried) (r : Record)
-    (i : Lies (length raw) w.key_len r) (fits : offset + length raw ≤ length «data») (l : half + half ≤ length scratch) (h : Held half w) where
+    (i : Lies (length raw) w.key_len r) (l : half + half ≤ length scratch) (h : Held half w) where
   own_length : length (take (r.key_len - r.shared) (drop (r.place - (r.key_len - r.shared)) raw)) ≡ r.key_len - r.shared
   own_length =
       part_length raw (r.place - (r.key_len - r.shared)) (r.key_len - r.shared) (omega (arith, i.longer, i.own, i.inside))
@@ -207,31 +204,18 @@ module _ (s «data» : List ℕ) (o : Opened) (end half offset : ℕ) (raw scrat
           let own = take (r.key_len - r.shared) (drop (r.place - (r.key_len - r.shared)) raw) in
           ap (take w.previous_len) (ap (drop half) z ∙ drop_sets_behind own scratch r.shared half (omega (arith, own_length, i.longer)))
 
-      value_length : length (take (offset + r.place + r.size - (offset + r.place)) (drop (offset + r.place) «data»)) ≡ r.size
-      value_length =
-          let n : offset + r.place + r.size - (offset + r.place) ≡ r.size = omega arith in
-          ap (λ (k : ℕ). length (take k (drop (offset + r.place) «data»))) n
-          ∙ part_length «data» (offset + r.place) r.size (omega (arith, i.inside))
-
       module _ (v : Result Cursor Refusal)
           (g : v ≡ visit_of s o end w.cursor (take w.previous_len (drop half copied))
-          (record {
-            key = take r.key_len copied;
-            seq = r.seq;
-            kind = r.kind;
-            place = offset + r.place;
-            size = length (take (offset + r.place + r.size - (offset + r.place)) (drop (offset + r.place) «data»));
-          })
-          (take (offset + r.place + r.size - (offset + r.place)) (drop (offset + r.place) «data»)))
+          (record { key = take r.key_len copied; seq = r.seq; kind = r.kind; place = offset + r.place; size = r.size })
+          (take r.size (drop (offset + r.place) «data»)))
         where
           visited-entry : v ≡ visit_of s o end w.cursor (take w.previous_len (drop half scratch)) entry (value_of «data» entry)
           unfolding entry placed entry_in value_of
           visited-entry =
-              let n : offset + r.place + r.size - (offset + r.place) ≡ r.size = omega arith in
               g
               ∙ (λ x. visit_of s o end w.cursor (behind x)
-              (record { key = front x; seq = r.seq; kind = r.kind; place = offset + r.place; size = value_length x })
-              (take (n x) (drop (offset + r.place) «data»)))
+              (record { key = front x; seq = r.seq; kind = r.kind; place = offset + r.place; size = r.size })
+              (take r.size (drop (offset + r.place) «data»)))
 
           asked-visited : visited_at r.next (state_in half scratch w) entry v
               ≡ record_asked (inputs_with s «data» o end half) (state_in half scratch w) r.next entry

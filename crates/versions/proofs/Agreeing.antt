@@ -5,11 +5,8 @@ use mathlib.Core.List.{List}
 use mathlib.Core.Bool.{true, false}
 use Prim.Native.Nat.{ℕ, ◌^◌, ◌<◌}
 use native.Mathlib.Omega.{arith}
-use lib.Dec.{eqb, ltb}
 use borrow.Author.Tests.{ltb-true, lt-ltb, eqb-true, eq-eqb}
-use Rattle.num.specs.Choice.{both, either}
-use Rattle.num.proofs.Choice.{both_true, true_both, same_truth, either_second, second_either}
-use Rattle.num.specs.Order.{equal_bytes}
+use Rattle.num.proofs.Choice.{both_true, true_both, either_second, second_either}
 use Rattle.num.proofs.Order.{equal_bytes-true, equal_bytes-same}
 use Rattle.sstable.specs.declared.Kind.{Kind}
 use Rattle.sstable.specs.declared.Kind.TheVariants.{Put, Tombstone}
@@ -71,31 +68,3 @@ agrees s o c e a =
     (true_both _ _ (true_both _ _ (lt-ltb _ _ a.sum) (eq-eqb _ _ a.seq))
     (true_both _ _ (same_kind-same _ _ a.kind)
     (true_both _ _ (eq-eqb _ _ a.size) (eq-eqb _ _ a.place)))))
-
--- kind and length, from the stored value length
-pub value_asked : (s : List ℕ) (o : Opened) (c : Cursor) (e : Entry) {stored : ℕ} → stored ≡ stored_value s o c.pos → version_agrees s o c e ≡ true
-    → both (same_kind (kind_in o stored) e.kind) (eqb (length_in o stored) e.size) ≡ true
-value_asked s o c e {stored} v t =
-    let a = agreeing s o c e t in
-    true_both _ _ (same_kind-same _ _ (ap (kind_in o) v ∙ a.kind)) (eq-eqb _ _ (ap (length_in o) v ∙ a.size))
-
--- the last test of question 20, where the others are passed
-pub agrees_last : (s : List ℕ) (o : Opened) (c : Cursor) (e : Entry) {stored place : ℕ}
-    → equal_bytes e.key (stored_key s o c) ≡ true
-    → either c.first (ltb e.seq c.last_seq) ≡ true
-    → seq_agrees s o c.pos e.seq ≡ true
-    → stored ≡ stored_value s o c.pos
-    → both (same_kind (kind_in o stored) e.kind) (eqb (length_in o stored) e.size) ≡ true
-    → place ≡ stored_offset s o c.pos
-    → eqb place e.place ≡ version_agrees s o c e
-unfolding version_agrees
-agrees_last s o c e {stored} {place} k f q v b p =
-    let m = both_true _ _ b in
-    same_truth _ _
-    (λ t. true_both _ _ k
-    (true_both _ _ f
-    (true_both _ _ q
-    (true_both _ _ (ap (λ (n : ℕ). same_kind (kind_in o n) e.kind) (sym v) ∙ m.0)
-    (true_both _ _ (ap (λ (n : ℕ). eqb (length_in o n) e.size) (sym v) ∙ m.1)
-    (ap (λ (n : ℕ). eqb n e.place) (sym p) ∙ t))))))
-    (λ t. eq-eqb _ _ (p ∙ (agreeing s o c e t).place))

@@ -15,6 +15,7 @@ use Rattle.num.specs.Order.{equal_bytes}
 use Rattle.num.proofs.Lists.{part_length}
 use Rattle.num.proofs.Order.{equal_bytes-true, equal_bytes-same, equal_bytes-false}
 use Rattle.num.proofs.Choice.{never_true, same_truth}
+use Rattle.sstable.specs.declared.Kind.{Kind}
 use Rattle.sstable.specs.declared.Kind.TheVariants.{Put, Tombstone}
 use Rattle.encoding.specs.Encoding.{tombstone_of}
 use Rattle.header.specs.declared.Opened.{Opened}
@@ -108,3 +109,19 @@ module _ (o : Opened) (stored size : ℕ) where
       let m : stored - tombstone_of o.encoding < tombstone_of o.encoding = omega arith in
       let e : stored % tombstone_of o.encoding ≡ stored - tombstone_of o.encoding = mod-eq-sub-mod h ∙ mod-eq_of_lt m in
       rw (le-leb _ _ h, e)
+
+-- ---- kind and length of a record
+
+module _ (o : Opened) (kind : Kind) (v n t size : ℕ) (e : n ≡ v) (z : t ≡ tombstone_of o.encoding) where
+  pub put_agrees : kind ≡ Put → n < t → eqb n size ≡ both (same_kind (kind_in o v) kind) (eqb (length_in o v) size)
+  put_agrees k h = rw (k, ← e) (put_length o n size (omega (arith, z, h)))
+
+  pub put_refused : kind ≡ Put → t ≤ n → false ≡ both (same_kind (kind_in o v) kind) (eqb (length_in o v) size)
+  put_refused k h = rw (k, ← e) (sym (put_marked o n size (omega (arith, z, h))))
+
+  pub tombstone_agrees : kind ≡ Tombstone → t ≤ n → n < 2 * tombstone_of o.encoding
+      → eqb (n - t) size ≡ both (same_kind (kind_in o v) kind) (eqb (length_in o v) size)
+  tombstone_agrees k h b = rw (k, ← e, z) (tombstone_length o n size (omega (arith, z, h)) b)
+
+  pub tombstone_refused : kind ≡ Tombstone → n < t → false ≡ both (same_kind (kind_in o v) kind) (eqb (length_in o v) size)
+  tombstone_refused k h = rw (k, ← e) (sym (tombstone_unmarked o n size (omega (arith, z, h))))

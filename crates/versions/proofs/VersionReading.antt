@@ -2,12 +2,12 @@
 -- Assumes nothing.
 use mathlib.Core.Path.{◌≡◌, ap, subst⁻¹}
 use mathlib.Core.List.{List}
-use mathlib.Core.Bool.{Bool, true, false}
+use mathlib.Core.Bool.{Bool, false, not}
 use Prim.Native.Nat.{ℕ, ◌+◌, ◌*◌, ◌-◌, ◌^◌, ◌<◌, ◌≤◌}
 use native.Mathlib.Omega.{arith}
 use lib.Dec.{eqb, ltb}
 use lib.ListN.{length}
-use borrow.Author.Tests.{eqb-true, eq-eqb, lt-ltb}
+use borrow.Author.Tests.{eqb-true, eq-eqb, lt-ltb, not-false}
 use Rattle.num.specs.Choice.{when◌then◌else◌, both}
 use Rattle.num.specs.Number.{Bytes, le_at}
 use Rattle.num.proofs.Choice.{never_true, same_truth, both_true, true_both}
@@ -40,12 +40,12 @@ seq_less s o pos seq {n} h b e =
     (λ t. let l = eqb-true (o.min_seq + le_at s pos o.encoding.seq) seq (both_true _ _ t).1 in eq-eqb n (seq - o.min_seq) (omega arith))
 
 -- with checksums, the CRC-32 of a version lies in the section
-pub checksum_inside : (s : List ℕ) (o : Opened) (c : Cursor) → Standing s o c → o.encoding.checksum ≡ true
+pub checksum_inside : (s : List ℕ) (o : Opened) (c : Cursor) → Standing s o c → not o.encoding.checksum ≡ false
     → c.pos + o.encoding.seq + o.encoding.value + o.encoding.address + 4 ≤ length s
 unfolding version_len_of when◌then◌else◌
 checksum_inside s o c g t =
     let v = g.version in
-    let e : ◌≡◌ {A = ℕ} (when◌then◌else◌ o.encoding.checksum 4 0) 4 = ap (λ (b : Bool). when◌then◌else◌ {A = ℕ} b 4 0) t in
+    let e : ◌≡◌ {A = ℕ} (when◌then◌else◌ o.encoding.checksum 4 0) 4 = ap (λ (b : Bool). when◌then◌else◌ {A = ℕ} b 4 0) (not-false _ t) in
     omega arith
 
 -- without them too, the numbers before it do

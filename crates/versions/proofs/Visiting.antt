@@ -10,6 +10,7 @@ use lib.Dec.{eqb}
 use borrow.Author.Tests.{eqb-true, eqb-false, eq-eqb, ne_eqb}
 use Rattle.std.specs.Prelude.{Result, Ok, Err}
 use Rattle.refusal.specs.declared.Refusal.{Refusal}
+use Rattle.refusal.proofs.Asked.{refused_ok, asked}
 use Rattle.num.specs.Choice.{when◌then◌else◌}
 use Rattle.block.specs.Walk.{Entry}
 use Rattle.encoding.specs.Encoding.{version_len_of}
@@ -18,15 +19,15 @@ use Rattle.arena.specs.declared.Cursor.{Cursor}
 use Rattle.arena.specs.Internal.{Readable, Inside}
 use Rattle.arena.specs.Key.{key_of}
 use Rattle.versions.specs.Version.{version_agrees, checksum_agrees, advanced, version_for, visit_of}
-use Rattle.arena.proofs.Entering.{refused_went, passed, key_inside}
+use Rattle.arena.proofs.Entering.{key_inside}
 
 -- a version that passes questions 20 and 21, and the cursor behind it
 pub version_advanced : (s : List ℕ) (o : Opened) (e : Entry) (value : List ℕ) (c d : Cursor) → version_for s o e value (Ok c) ≡ Ok d
     → (version_agrees s o c e ≡ true) × (checksum_agrees s o c value ≡ true) × (advanced o c e.seq ≡ d)
 unfolding version_for
 version_advanced s o e value c d t =
-    let a = passed _ _ _ d t in
-    let k = passed _ _ _ d a.1 in
+    let a = asked _ _ _ d t in
+    let k = asked _ _ _ d a.1 in
     (a.0, k.0, let w = k.1 in cc)
 
 -- a visit in a key is that of its next version
@@ -46,7 +47,7 @@ version_behind : (s : List ℕ) (o : Opened) (e : Entry) (value : List ℕ) (v :
     → (m : Cursor) × (v ≡ Ok m) × (version_for s o e value (Ok m) ≡ Ok d)
 unfolding version_for
 version_behind s o e value (Ok m) d t = (m, refl, t)
-version_behind s o e value (Err n) d t = refused_went n d t
+version_behind s o e value (Err n) d t = refused_ok t
 
 advanced_inside : (s : List ℕ) (o : Opened) (end : ℕ) (c : Cursor) (seq : ℕ) → Inside s o end c → 1 ≤ c.remaining → Inside s o end (advanced o c seq)
 unfolding advanced

@@ -1,1 +1,2 @@
 pub mod Version
+pub mod Lent

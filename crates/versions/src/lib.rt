@@ -1,196 +1,211 @@
 // A record of the blocks beside the version at the cursor: questions 20 and 21, and behind a key's end 16 to 19 first.
 #![tactic(auto)]
 
-ghost use Rattle.std.specs.Prelude.{◌≡◌, true, not, ◌+◌, ◌*◌, ◌^◌, ◌<◌, ◌≤◌, eqb, ltb, length, Ok};
+ghost use Rattle.std.specs.Prelude.{◌≡◌, ◌+◌, ◌*◌, ◌<◌, ◌≤◌, eqb, ltb, length, Ok};
 ghost use Rattle.num.specs.Choice.{both, either};
 ghost use Rattle.num.specs.Order.{equal_bytes};
-ghost use Rattle.encoding.specs.Encoding.{Widths, version_len_of, tombstone_of};
-ghost use Rattle.arena.specs.Internal.{Readable, Inside, Standing};
-ghost use Rattle.versions.specs.Version.{stored_key, kind_in, length_in, same_kind, seq_agrees, version_agrees, checksum_agrees, advanced, version_for, visit_of};
+ghost use Rattle.num.specs.Number.{le_at};
+ghost use Rattle.encoding.specs.Encoding.{Widths, tombstone_of};
+ghost use Rattle.arena.specs.Internal.{Standing};
+ghost use Rattle.versions.specs.Version.{
+  stored_key,
+  stored_value,
+  kind_in,
+  length_in,
+  same_kind,
+  seq_agrees,
+  version_agrees,
+  checksum_agrees,
+  advanced,
+  version_for,
+  visit_of,
+};
+ghost use Rattle.versions.specs.Lent.{entry_lent};
 
-use arena::Cursor;
+use arena::{Arena, Cursor};
+use encoding::Layout;
 use header::Opened;
 use num::LittleEndian;
 use refusal::{Refusal, ask};
 use sstable::Kind;
 
-// A record of a block beside its key: sequence, kind, and the place of its value in the data.
+// A record of a block: its key and its value's bytes, sequence, kind, and the place of the value in the data.
 #[derive(Clone, Copy)]
-pub struct RecordInfo {
+pub struct RecordInfo<'a> {
+    pub key: &'a [u8],
+    pub value: &'a [u8],
     pub seq: u64,
     pub kind: Kind,
     pub place: usize,
 }
 
-// Is the key the anchor's shared part and the suffix?
-fn stored_key_equal(section: &[u8], o: Opened, c: Cursor, key: &[u8]) -> bool
-    requires { Standing section.now o c }
-    ensures { result ≡ equal_bytes key.now (stored_key section.now o c) }
+// The stored value length at a place, which has no bit above the tombstone's. The section is a parameter beside the
+// place, and no field: of a parameter's bytes it is known that they are bytes, and from there the bound follows; for it
+// alone `Version` would carry a ghost field more.
+#[tactic(auto, using(crate::proofs::VersionReading::value_lt, arena::proofs::Reading::value_width))]
+fn value_at(section: &[u8], layout: Layout, at: usize) -> u64
+    requires { at + layout.encoding.value ≤ length section.now }
+    ensures { (result ≡ le_at section.now at layout.encoding.value) × (result < 2 * tombstone_of layout.encoding) }
 {
-    let shared = c.shared;
-    if key.len() < shared {
-        return false;
-    }
-    if key.len() - shared != c.suffix_len {
-        return false;
-    }
-    let anchor = o.arena + c.anchor;
-    let anchor_end = anchor + shared;
-    if key[..shared] != section[anchor..anchor_end] {
-        return false;
-    }
-    let suffix_end = c.suffix + c.suffix_len;
-    key[shared..] == section[c.suffix..suffix_end]
+    num::uint(section, at, layout.encoding.value)
 }
 
-// A key's versions have falling sequences.
-fn seq_falls(c: Cursor, seq: u64) -> bool
-    ensures { result ≡ either c.first (ltb seq c.last_seq) }
-{
-    if c.first {
-        return true;
-    }
-    seq < c.last_seq
+// The version at a cursor: it and its key lie in the section.
+#[derive(Clone, Copy)]
+struct Version<'a> {
+    section: &'a [u8],
+    opened: Opened,
+    cursor: Cursor,
+    ghost widths: { Widths opened.encoding },
+    ghost standing: { Standing section.now opened cursor },
 }
 
-// Is it the least sequence plus the stored number? The sum may pass 2^64, the difference does not; a sequence is below 2^64.
-fn seq_agrees(section: &[u8], o: Opened, pos: usize, seq: u64) -> bool
-    requires widths { Widths o.encoding }
-    requires seq_in_bounds { pos + o.encoding.seq ≤ length section.now }
-    ensures { result ≡ seq_agrees section.now o pos seq }
-{
-    if seq < o.min_seq {
-        return false;
+impl<'a> Version<'a> {
+    // Other views have a method of this name too: what their widths follow from is another fact in each.
+    fn layout(&self) -> Layout
+        ensures { result.encoding ≡ self.now.opened.encoding }
+    {
+        Layout::new(self.opened.encoding)
     }
-    num::uint(section, pos, o.encoding.seq) == seq - o.min_seq
-}
 
-// Do kind and length agree with a stored value length, whose top bit marks a tombstone?
-fn value_agrees(o: Opened, stored: u64, kind: Kind, size: usize) -> bool
-    requires widths { Widths o.encoding }
-    requires stored_bound { stored < 2 * tombstone_of o.encoding }
-    ensures { result ≡ both (same_kind (kind_in o stored) kind) (eqb (length_in o stored) size) }
-{
-    let e = o.encoding;
-    let tombstone = e.tombstone();
-    match kind {
-        Kind::Put => {
-            if tombstone <= stored {
-                return false;
-            }
-            stored == size as u64
+    // Is the key the anchor's shared part and the suffix?
+    fn stored_key_equal(&self, key: &[u8]) -> bool
+        ensures { result ≡ equal_bytes key.now (stored_key self.now.section.now self.now.opened self.now.cursor) }
+    {
+        let c = self.cursor;
+        let shared = c.shared;
+        if key.len() < shared {
+            return false;
         }
-        Kind::Tombstone => {
-            if stored < tombstone {
-                return false;
-            }
-            stored - tombstone == size as u64
+        if key.len() - shared != c.suffix_len {
+            return false;
+        }
+        let anchor = self.opened.arena + c.anchor;
+        let anchor_end = anchor + shared;
+        if key[..shared] != self.section[anchor..anchor_end] {
+            return false;
+        }
+        let suffix_end = c.suffix + c.suffix_len;
+        key[shared..] == self.section[c.suffix..suffix_end]
+    }
+
+    // A key's versions have falling sequences.
+    #[tactic(auto, unfolding(num::specs::Choice::choice_defs))]
+    fn seq_falls(&self, seq: u64) -> bool
+        ensures { result ≡ either self.now.cursor.first (ltb seq self.now.cursor.last_seq) }
+    {
+        self.cursor.first || seq < self.cursor.last_seq
+    }
+
+    // Is it the least sequence plus the stored number? The sum may pass 2^64, the difference does not; a sequence is
+    // below 2^64.
+    #[tactic(auto, using(crate::proofs::VersionReading::seq_below, crate::proofs::VersionReading::seq_less))]
+    fn seq_agrees(&self, seq: u64) -> bool
+        ensures { result ≡ seq_agrees self.now.section.now self.now.opened self.now.cursor.pos seq }
+    {
+        let o = self.opened;
+        if seq < o.min_seq {
+            return false;
+        }
+        num::uint(self.section, self.cursor.pos, o.encoding.seq) == seq - o.min_seq
+    }
+
+    // Do kind and length agree with the stored value length, whose top bit marks a tombstone?
+    fn value_agrees(&self, kind: Kind, size: usize) -> bool
+        ensures { result
+            ≡ both
+            (same_kind (kind_in self.now.opened
+            (stored_value self.now.section.now self.now.opened self.now.cursor.pos)) kind)
+            (eqb (length_in self.now.opened
+            (stored_value self.now.section.now self.now.opened self.now.cursor.pos)) size) }
+    {
+        let e = self.opened.encoding;
+        let layout = self.layout();
+        let stored = value_at(self.section, layout, self.cursor.pos + e.seq);
+        let tombstone = layout.tombstone();
+        match kind {
+            Kind::Put => stored < tombstone && stored == size as u64,
+            Kind::Tombstone => tombstone <= stored && stored - tombstone == size as u64,
         }
     }
-}
 
-// Question 20.
-fn version_agrees(
-    section: &[u8],
-    o: Opened,
-    c: Cursor,
-    key: &[u8],
-    size: usize,
-    found: RecordInfo,
-) -> bool
-    requires widths { Widths o.encoding }
-    requires standing { Standing section.now o c }
-    ensures { result ≡ version_agrees section.now o c (record { key = key.now; seq = found.seq; kind = found.kind; place = found.place; size = size }) }
-{
-    if !stored_key_equal(section, o, c, key) {
-        return false;
+    // Question 20.
+    #[tactic(auto, using(crate::proofs::VersionReading::version_inside), unfolding(crate::specs::Version::version_agrees, crate::specs::Version::stored_offset, num::specs::Choice::choice_defs))]
+    fn version_agrees(&self, found: RecordInfo<'_>) -> bool
+        ensures { result
+            ≡ version_agrees self.now.section.now self.now.opened self.now.cursor (entry_lent found.entry) }
+    {
+        let e = self.opened.encoding;
+        let address = self.cursor.pos + e.seq + e.value;
+        self.stored_key_equal(found.key)
+            && self.seq_falls(found.seq)
+            && self.seq_agrees(found.seq)
+            && self.value_agrees(found.kind, found.value.len())
+            && num::uint(self.section, address, e.address) == found.place as u64
     }
-    if !seq_falls(c, found.seq) {
-        return false;
-    }
-    if !seq_agrees(section, o, c.pos, found.seq) {
-        return false;
-    }
-    let e = o.encoding;
-    let value_at = c.pos + e.seq;
-    let stored = num::uint(section, value_at, e.value);
-    let kind = found.kind;
-    if !value_agrees(o, stored, kind, size) {
-        return false;
-    }
-    num::uint(section, value_at + e.value, e.address) == found.place as u64
-}
 
-// Question 21.
-fn checksum_agrees(section: &[u8], o: Opened, c: Cursor, value: &[u8]) -> bool
-    requires widths { Widths o.encoding }
-    requires standing { Standing section.now o c }
-    ensures { result ≡ checksum_agrees section.now o c value.now }
-{
-    let e = o.encoding;
-    if !e.checksum {
-        return true;
+    // Question 21.
+    #[tactic(auto, using(crate::proofs::VersionReading::checksum_inside), unfolding(crate::specs::Version::checksum_agrees, crate::specs::Version::stored_checksum, num::specs::Choice::choice_defs))]
+    fn checksum_agrees(&self, value: &[u8]) -> bool
+        ensures { result ≡ checksum_agrees self.now.section.now self.now.opened self.now.cursor value.now }
+    {
+        let e = self.opened.encoding;
+        if !e.checksum {
+            return true;
+        }
+        let at = self.cursor.pos + e.seq + e.value + e.address;
+        u32::read(self.section, at) == crc32::crc32(value)
     }
-    let at = c.pos + e.seq + e.value + e.address;
-    u32::read(section, at) == crc32::crc32(value)
-}
 
-// The cursor behind the version.
-fn advanced(o: Opened, c: Cursor, seq: u64) -> Cursor
-    requires widths { Widths o.encoding }
-    requires le_remaining { (1 ≤ c.remaining) × (c.pos + version_len_of o.encoding < 2 ^ 64) }
-    ensures { result ≡ advanced o c seq }
-{
-    Cursor {
-        pos: c.pos + o.encoding.version(),
-        remaining: c.remaining - 1,
-        last_seq: seq,
-        first: false,
-        ..c
+    // The cursor behind it.
+    #[tactic(auto, unfolding(crate::specs::Version::advanced))]
+    fn advanced(&self, seq: u64) -> Cursor
+        ensures { result ≡ advanced self.now.opened self.now.cursor seq }
+    {
+        let c = self.cursor;
+        Cursor {
+            pos: c.pos + self.layout().version(),
+            remaining: c.remaining - 1,
+            last_seq: seq,
+            first: false,
+            ..c
+        }
+    }
+
+    // Questions 20 and 21 of a record whose key the cursor stands in.
+    #[tactic(auto, unfolding(crate::specs::Version::version_for, num::specs::Choice::choice_defs))]
+    fn record_asked(&self, found: RecordInfo<'_>) -> Result<Cursor, Refusal>
+        ensures { result
+            ≡ version_for self.now.section.now self.now.opened (entry_lent found.entry) found.entry.value.now
+            (Ok self.now.cursor) }
+    {
+        ask(self.version_agrees(found), Refusal::Version)?;
+        ask(self.checksum_agrees(found.value), Refusal::ValueCrc)?;
+        Ok(self.advanced(found.seq))
     }
 }
 
-// Questions 20 and 21 of a record whose key the cursor stands in.
-#[tactic(auto, unfolding(crate::specs::Version::version_for, num::specs::Choice::choice_defs))]
-fn version_record(
-    section: &[u8],
-    o: Opened,
-    c: Cursor,
-    key: &[u8],
-    value: &[u8],
-    found: RecordInfo,
-) -> Result<Cursor, Refusal>
-    requires widths { Widths o.encoding }
-    requires standing { Standing section.now o c }
-    ensures { result ≡ version_for section.now o (record { key = key.now; seq = found.seq; kind = found.kind; place = found.place; size = length value.now }) value.now (Ok c) }
-{
-    ask(
-        version_agrees(section, o, c, key, value.len(), found),
-        Refusal::Version,
-    )?;
-    ask(checksum_agrees(section, o, c, value), Refusal::ValueCrc)?;
-    Ok(advanced(o, c, found.seq))
-}
-
-// Questions 16 to 21 of a record with its key and its value's bytes, behind the last key.
+// Questions 16 to 21 of a record behind the last key.
 #[tactic(auto, using(arena::proofs::Entering::key_inside, arena::proofs::Reading::inside_standing), unfolding(crate::specs::Version::visit_of, crate::specs::Version::version_for, num::specs::Choice::choice_defs))]
-pub fn visit(
-    section: &[u8],
-    o: Opened,
-    end: usize,
-    c: Cursor,
-    previous: &[u8],
-    key: &[u8],
-    value: &[u8],
-    found: RecordInfo,
-) -> Result<Cursor, Refusal>
-    requires readable { Readable section.now o }
-    requires inside { Inside section.now o end c }
-    ensures { result ≡ visit_of section.now o end c previous.now (record { key = key.now; seq = found.seq; kind = found.kind; place = found.place; size = length value.now }) value.now }
+pub fn visit(arena: &Arena<'_>, previous: &[u8], found: RecordInfo<'_>) -> Result<Cursor, Refusal>
+    ensures { result
+        ≡ visit_of arena.now.section.now arena.now.opened arena.now.end arena.now.cursor previous.now
+        (entry_lent found.entry) found.entry.value.now }
 {
-    if c.remaining != 0 {
-        return version_record(section, o, c, key, value, found);
+    let (section, opened, cursor) = (arena.section, arena.opened, arena.cursor);
+    if cursor.remaining != 0 {
+        let version = Version {
+            section,
+            opened,
+            cursor,
+        };
+        return version.record_asked(found);
     }
-    let entered = arena::key_record(section, o, end, c, previous, key)?;
-    version_record(section, o, entered, key, value, found)
+    let entered = arena.key_record(previous, found.key)?;
+    let version = Version {
+        section,
+        opened,
+        cursor: entered,
+    };
+    version.record_asked(found)
 }

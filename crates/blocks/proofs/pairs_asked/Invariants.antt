@@ -1,6 +1,0 @@
-use Rattle.std.proofs.Common.{◌*◌}
-use Rattle.blocks.proofs.Pairs.{Asking}
-use Rattle.blocks.proofs.pairs_asked.Given as goal
-
-abbrev pub invariant-loop-pair : goal.invariant-loop-pair
-invariant-loop-pair l = Asking l.«data» l.fn.blocks (2 * l.pair-index) l.at

@@ -1,8 +1,0 @@
-use mathlib.Core.Path.{◌≡◌}
-use mathlib.Core.Bool.{true}
-use Rattle.num.specs.Choice.{each_below}
-use Rattle.opening.specs.Open.{pilot_inside_of}
-use Rattle.opening.proofs.pilots_inside.Given as goal
-
-abbrev pub invariant-loop-k : goal.invariant-loop-k
-invariant-loop-k l = each_below l.k (pilot_inside_of l.section l.o) ≡ true
