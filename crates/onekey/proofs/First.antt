@@ -12,11 +12,11 @@ use Rattle.encoding.specs.Encoding.{key_header_len_of}
 use Rattle.encoding.proofs.Widths.{widths_le}
 use Rattle.header.specs.declared.Opened.{Opened}
 use Rattle.spans.specs.Span.{Pair, value_end, value_at, first_within, values_from}
-use Rattle.spans.specs.Internal.{Spannable, Placed}
-use Rattle.spans.proofs.Values.{met_inside, placed_some, placed_none}
+use Rattle.spans.specs.Internal.{Spannable, placed_of, PlaceTells}
+use Rattle.spans.proofs.Values.{met_inside, placed_some, placed_none, told_placed}
 use Rattle.spans.proofs.Keys.{one_key}
 use Rattle.wholekeys.proofs.Records.{record_bounds, found_is}
-use Rattle.onekey.specs.Internal.{VersionTold, KeyPut}
+use Rattle.onekey.specs.Internal.{KeyPut}
 
 module _ (s : List ℕ) (o : Opened) (limit at : ℕ) {header suffix versions : ℕ} (eh : header ≡ key_header_len_of o.encoding)
     (ex : suffix ≡ le_at s (o.arena + at + (o.encoding.address + o.encoding.key)) o.encoding.key)
@@ -38,24 +38,20 @@ module _ (s : List ℕ) (o : Opened) (limit at : ℕ) {header suffix versions : 
   pub versions_answer : o.arena + at + header ≤ length s → values_from 1 s o limit at ≡ first_within versions s o from limit
   versions_answer l = one_key s o limit at ∙ sym (found_is s o limit at eh refl ex ev l)
 
--- the place of the first version within a limit, where each had a word behind what a span reads of it, tells what was found
-pub placed_told : {r : Result (Option ℕ) Refusal} (s : List ℕ) (o : Opened) (room : ℕ) (a : Result (List Pair) Refusal) → Placed r s o room a
-    → room ≡ value_end o.encoding + 8 → (v : Option ℕ) → r ≡ Ok v → VersionTold (Some v) s o a
-unfolding VersionTold
-placed_told s o room a t m (Some pos) e =
-    let p = placed_some s o room a t e in
-    (p.0 ∙ met_inside s o pos 0 (omega (arith, p.1)), omega (arith, p.1))
-placed_told s o room a t m None e = placed_none s o room a t e
+-- the place of the first version within a limit, where each had a word behind what a span reads of it, tells the answer
+module _ {r : Result (Option ℕ) Refusal} (n : ℕ) (s : List ℕ) (o : Opened) (room pos limit : ℕ) (e : r ≡ placed_of n s o room pos limit)
+    (m : room ≡ value_end o.encoding + 8) where
+  told : PlaceTells r s o room (first_within n s o pos limit)
+  unfolding value_end
+  told = told_placed n s o room pos limit e (omega arith)
 
--- what was found of some versions tells their answer
-module _ (s : List ℕ) (o : Opened) (a : Result (List Pair) Refusal) {v : Option (Option ℕ)} (t : VersionTold v s o a) where
-  pub at_told : {pos : ℕ} → v ≡ Some (Some pos) → (a ≡ Ok (value_at s o pos)) × (pos + value_end o.encoding + 8 ≤ length s)
-  unfolding VersionTold
-  at_told e = subst (λ (x : Option (Option ℕ)). VersionTold x s o a) e t
+  pub at_told : {at : ℕ} → r ≡ Ok (Some at) → (first_within n s o pos limit ≡ Ok (value_at s o at)) × (at + value_end o.encoding + 8 ≤ length s)
+  at_told {at} is =
+      let p = placed_some s o room (first_within n s o pos limit) told is in
+      (p.0 ∙ met_inside s o at 0 (omega (arith, p.1)), omega (arith, p.1))
 
-  pub absent_told : v ≡ Some None → a ≡ Ok []
-  unfolding VersionTold
-  absent_told e = subst (λ (x : Option (Option ℕ)). VersionTold x s o a) e t
+  pub absent_told : r ≡ Ok None → first_within n s o pos limit ≡ Ok []
+  absent_told is = placed_none s o room (first_within n s o pos limit) told is
 
 -- what was put of one answer was put of the same
 pub put_over : {a x : Result (List Pair) Refusal} → a ≡ x → (v : Option ℕ) (before after : List ℕ) → KeyPut v a before after → KeyPut v x before after

@@ -1,6 +1,6 @@
 -- The questions of a span, in their order.
 -- Assumes nothing.
-use mathlib.Core.Path.{◌≡◌, refl, sym, ap, ◌∙◌}
+use mathlib.Core.Path.{◌≡◌, sym, ap, ◌∙◌}
 use mathlib.Core.Bool.{true, false}
 use mathlib.Core.List.{List}
 use Prim.Native.Nat.{ℕ, ◌+◌, ◌*◌, ◌<◌, ◌≤◌}
@@ -11,16 +11,15 @@ use borrow.Author.Tests.{eqb-true, eqb-false, not-true, leb-true, le-leb, lt-leb
 use Rattle.std.specs.Prelude.{Result, Err}
 use Rattle.refusal.specs.declared.Refusal.{Refusal}
 use Rattle.refusal.specs.declared.Refusal.TheVariants as refusal
-use Rattle.num.specs.Number.{le_at}
-use Rattle.num.proofs.Choice.{false_true, both_true, if_true, if_false}
+use Rattle.num.proofs.Choice.{both_true, if_true, if_false}
 use Rattle.header.specs.declared.Opened.{Opened}
-use Rattle.header.specs.Facts.{Header, IsRecord, from_plain, from_packed}
+use Rattle.header.specs.Facts.{Header}
 use Rattle.header.proofs.Bounds.{buckets_range, scan_part_lem, scan_end}
 use Rattle.opened.specs.Opened.{is_record_of}
 use Rattle.opened.proofs.Records.{record_facts}
+use Rattle.lookup.proofs.Places.{plain_header}
 use Rattle.spans.specs.Span.{Pair, scannable, scan_address, values_from, span_of, pairs_written, spanned_read}
 use Rattle.spans.specs.Internal.{Spannable}
-use Rattle.wholekeys.proofs.Whole.{table_address}
 
 -- ---- a record that passes 24 and 27
 
@@ -36,11 +35,6 @@ scanned o e =
     let a = both_true _ _ e in
     let b = both_true _ _ a.1 in
     record { plain = not-true _ a.0; scan = eqb-false _ _ (not-true _ b.0); four = eqb-true _ _ b.1 }
-
--- its header is a plain one
-pub plain_header : (s : List ℕ) (o : Opened) → IsRecord s o → o.packed ≡ false → Header s o
-plain_header s o (from_plain h) e = h
-plain_header s o (from_packed h) e = false_true (sym e ∙ h.packed)
 
 module _ (s : List ℕ) (o : Opened) (r : is_record_of s o ≡ true) (q : scannable o ≡ true) where
   header : Header s o
@@ -65,12 +59,7 @@ module _ (s : List ℕ) (o : Opened) (r : is_record_of s o ≡ true) (q : scanna
 
 -- ---- the answers
 
--- keys are read from the scan address of the first
-pub read_from : (s : List ℕ) (o : Opened) (first count limit : ℕ) → o.encoding.address ≡ 4 → {a : ℕ} → a ≡ le_at s (o.scan + 24 + 4 * first) 4
-    → values_from count s o limit a ≡ values_from count s o limit (scan_address s o first)
-read_from s o first count limit four e = ap (values_from count s o limit) (e ∙ table_address s o four first refl)
-
--- and what is answered of one answer is answered of the same
+-- what is answered of one answer is answered of the same
 pub told_of : {x y : Result (List Pair) Refusal} → x ≡ y → (l : List ℕ) {r : Result ℕ Refusal} {m : List ℕ} → (r ≡ spanned_read x) × (m ≡ pairs_written x l) → (r ≡ spanned_read y) × (m ≡ pairs_written y l)
 told_of e l told = (told.0 ∙ ap spanned_read e, told.1 ∙ ap (λ (a : Result (List Pair) Refusal). pairs_written a l) e)
 

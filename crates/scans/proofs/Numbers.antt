@@ -11,10 +11,9 @@ use Rattle.num.proofs.Choice.{if_true, if_false}
 use Rattle.header.specs.declared.Opened.{Opened}
 use Rattle.opened.specs.Opened.{is_record_of}
 use Rattle.numbers.specs.Numbers.{opened_of, is_record_numbers}
-use Rattle.refusal.specs.Refusal.{answer_number}
+use Rattle.refusal.specs.Refusal.{answer_left, answer_number}
 use Rattle.spans.specs.Span.{Pair, span_of, spanned_read}
 use Rattle.scans.specs.Spans.{span_of_numbers, found_written}
-use Rattle.scans.specs.Internal.{found_read}
 
 module _ (s numbers : List ℕ) (first count limit places : ℕ) where
   pub no_numbers : is_record_numbers numbers ≡ false → span_of_numbers s numbers first count limit places ≡ Err refusal.RecordGiven
@@ -29,13 +28,13 @@ module _ (s numbers : List ℕ) (first count limit places : ℕ) where
   unfolding span_of
   no_record e n = sym (spanned_over e refl) ∙ if_false _ _ _ n
 
-found_read_lem : (x : Result (List Pair) Refusal) (found : ℕ) → found_read (spanned_read x) found ≡ found_written x found
-unfolding spanned_read found_read found_written
-found_read_lem (Ok ps) found = refl
-found_read_lem (Err e) found = refl
+answer_left_lem : (x : Result (List Pair) Refusal) (found : ℕ) → answer_left (spanned_read x) found ≡ found_written x found
+unfolding spanned_read found_written
+answer_left_lem (Ok ps) found = refl
+answer_left_lem (Err e) found = refl
 
 -- what was answered is answered of the whole span
 pub outcome : (x : Result (List Pair) Refusal) {spanned : Result ℕ Refusal} → spanned ≡ spanned_read x → (found : ℕ) {r after : ℕ}
-    → (r ≡ answer_number spanned) × (after ≡ found_read spanned found) → (r ≡ answer_number (spanned_read x)) × (after ≡ found_written x found)
+    → (r ≡ answer_number spanned) × (after ≡ answer_left spanned found) → (r ≡ answer_number (spanned_read x)) × (after ≡ found_written x found)
 outcome x e found told =
-    (told.0 ∙ ap answer_number e, told.1 ∙ ap (λ (a : Result ℕ Refusal). found_read a found) e ∙ found_read_lem x found)
+    (told.0 ∙ ap answer_number e, told.1 ∙ ap (λ (a : Result ℕ Refusal). answer_left a found) e ∙ answer_left_lem x found)

@@ -10,7 +10,6 @@ use lib.ListN.{length}
 use borrow.Author.Tests.{le-leb}
 use Rattle.std.specs.Prelude.{Option, Some, None, Result, Ok}
 use Rattle.refusal.specs.declared.Refusal.{Refusal}
-use Rattle.num.specs.Number.{le_at}
 use Rattle.header.specs.declared.Opened.{Opened}
 use Rattle.numbers.specs.Numbers.{opened_of}
 use Rattle.spans.specs.Span.{Pair, scan_address, values_from, pairs_written, spanned_read}
@@ -18,7 +17,7 @@ use Rattle.spans.specs.Internal.{Spannable}
 use Rattle.onekey.specs.Internal.{KeyPut}
 use Rattle.usual.specs.Internal.{ScanRecord}
 use Rattle.scans.specs.Spans.{span_of_numbers}
-use Rattle.scans.proofs.Asked.{spannable, table_inside, read_from, told_of, walked}
+use Rattle.scans.proofs.Asked.{spannable, table_inside, told_of, walked}
 use Rattle.scans.proofs.Numbers.{spanned_over}
 
 module _ (s numbers : List ℕ) (first limit places : ℕ) (r : ScanRecord s numbers first) where
@@ -31,16 +30,16 @@ module _ (s numbers : List ℕ) (first limit places : ℕ) (r : ScanRecord s num
 
   module _ {o : Opened} (e : o ≡ opened_of numbers) where
     -- its scan address is read inside the section
-    pub one_table : o.scan + 24 + 4 * first + 4 ≤ length s
+    pub one_table : o.scan + 24 + 4 * (first + 1) + 4 ≤ length s
     one_table = omega (arith, ap (λ (p : Opened). p.scan) e, table_inside s (opened_of numbers) r.held r.scans first 1 inside)
 
     pub one_spannable : Spannable o
     one_spannable = rw e (spannable s (opened_of numbers) r.held r.scans)
 
     -- the key that stands there is the span
-    pub one_is : {address : ℕ} → address ≡ le_at s (o.scan + 24 + 4 * first) 4 → 2 ≤ places → values_from 1 s o limit address ≡ whole
+    pub one_is : {address : ℕ} → address ≡ scan_address s o first → 2 ≤ places → values_from 1 s o limit address ≡ whole
     one_is ea l =
-        read_from s o first 1 limit one_spannable.four ea
+        ap (values_from 1 s o limit) ea
         ∙ ap (λ (p : Opened). values_from 1 s p limit (scan_address s p first)) e
         ∙ walked s (opened_of numbers) first 1 limit places r.held r.scans inside (omega arith)
         ∙ spanned_over s numbers first 1 limit places r.numbers refl

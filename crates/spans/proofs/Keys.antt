@@ -25,11 +25,12 @@ use Rattle.header.specs.declared.Opened.{Opened}
 use Rattle.arena.specs.declared.KeyHeader.{KeyHeader}
 use Rattle.arena.specs.Key.{key_header_at}
 use Rattle.arena.specs.Internal.{Narrow}
-use Rattle.arena.proofs.Reading.{version_le, key_header_narrow}
+use Rattle.encoding.proofs.Lengths.{version_le}
+use Rattle.arena.proofs.Reading.{key_header_narrow}
 use Rattle.versions.specs.Version.{stored_seq}
 use Rattle.locator.specs.Locator.{readable}
 use Rattle.spans.specs.Span.{Pair, value_end, unless_tombstone, value_at, first_within, versions_start, key_value, next_address_of, pairs_joined, values_from, pair_numbers, pairs_written, spanned_read}
-use Rattle.spans.specs.Internal.{value_read, asked_of, is_given, pairs_of}
+use Rattle.spans.specs.Internal.{value_read, refused_of, is_given, pairs_of}
 
 -- ---- answers one behind the other
 
@@ -58,11 +59,11 @@ given_pairs (Err r) e = false_true e
 
 -- what is asked of one answer and of those behind it
 abbrev pub asked_then : Result (List Pair) Refusal → Result (List Pair) Refusal → Result (Unit {0}) Refusal
-asked_then (Ok ps) b = asked_of b
+asked_then (Ok ps) b = refused_of b
 asked_then (Err e) b = Err e
 
-asked_joined : (a b : Result (List Pair) Refusal) → asked_of (pairs_joined a b) ≡ asked_then a b
-unfolding pairs_joined asked_of
+asked_joined : (a b : Result (List Pair) Refusal) → refused_of (pairs_joined a b) ≡ asked_then a b
+unfolding pairs_joined refused_of
 asked_joined (Ok ps) (Ok qs) = refl
 asked_joined (Ok ps) (Err e) = refl
 asked_joined (Err e) b = refl
@@ -72,12 +73,12 @@ abbrev pub Told : Result (List Pair) Refusal → Result (Unit {0}) Refusal → T
 Told a (Ok u) = is_given a ≡ true
 Told a (Err e) = a ≡ Err e
 
-told_own : (a : Result (List Pair) Refusal) → Told a (asked_of a)
-unfolding asked_of is_given
+told_own : (a : Result (List Pair) Refusal) → Told a (refused_of a)
+unfolding refused_of is_given
 told_own (Ok ps) = refl
 told_own (Err e) = refl
 
-pub asked_told : (a : Result (List Pair) Refusal) {r : Result (Unit {0}) Refusal} → r ≡ asked_of a → Told a r
+pub asked_told : (a : Result (List Pair) Refusal) {r : Result (Unit {0}) Refusal} → r ≡ refused_of a → Told a r
 asked_told a e = subst⁻¹ (Told a) e (told_own a)
 
 -- ---- the numbers of pairs
@@ -221,7 +222,7 @@ module _ (s : List ℕ) (o : Opened) (limit at : ℕ) where
       go true p = leb-true _ _ p
       go false p = false_true (sym (ap is_given (key_outside (leb-false _ _ p))) ∙ e)
 
-  found_left : (v : Option ℕ) (b : Result (List Pair) Refusal) → asked_then (value_read s o (Ok v)) b ≡ asked_of b
+  found_left : (v : Option ℕ) (b : Result (List Pair) Refusal) → asked_then (value_read s o (Ok v)) b ≡ refused_of b
   unfolding value_read
   found_left (Some pos) b = refl
   found_left None b = refl
@@ -236,15 +237,15 @@ module _ (s : List ℕ) (o : Opened) (limit at : ℕ) where
   key_few = if_case (λ a. length (pairs_of a) ≤ 1) _ _ _ (λ _. from_few _ s o _ limit) (λ _. omega arith)
 
   -- a key that is refused refuses all, and one that is given leaves it to the others
-  pub key_asked : (n k : ℕ) → n ≡ suc k → asked_of (values_from n s o limit at) ≡ asked_then key (others k)
-  key_asked n k h = ap asked_of (keys_more n k h) ∙ asked_joined _ _
+  pub key_asked : (n k : ℕ) → n ≡ suc k → refused_of (values_from n s o limit at) ≡ asked_then key (others k)
+  key_asked n k h = ap refused_of (keys_more n k h) ∙ asked_joined _ _
 
   -- so does what was read of the key
   module _ (r : Result (Option ℕ) Refusal) (read : value_read s o r ≡ key) where
-    pub key_left : {v : Option ℕ} → r ≡ Ok v → (n k : ℕ) → n ≡ suc k → asked_of (values_from n s o limit at) ≡ asked_of (others k)
+    pub key_left : {v : Option ℕ} → r ≡ Ok v → (n k : ℕ) → n ≡ suc k → refused_of (values_from n s o limit at) ≡ refused_of (others k)
     key_left {v} e n k h = key_asked n k h ∙ ap (λ (a : Result (List Pair) Refusal). asked_then a (others k)) (sym read ∙ ap (value_read s o) e) ∙ found_left v (others k)
 
-    pub key_refused : {e : Refusal} → r ≡ Err e → (n k : ℕ) → n ≡ suc k → asked_of (values_from n s o limit at) ≡ Err e
+    pub key_refused : {e : Refusal} → r ≡ Err e → (n k : ℕ) → n ≡ suc k → refused_of (values_from n s o limit at) ≡ Err e
     unfolding value_read
     key_refused e n k h = key_asked n k h ∙ ap (λ (a : Result (List Pair) Refusal). asked_then a (others k)) (sym read ∙ ap (value_read s o) e)
 

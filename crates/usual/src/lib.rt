@@ -1,10 +1,19 @@
-// Questions 24 and 27 of the records that most sections with a scan part give, in few instructions: widths as `usual_widths` has them, and
-// sequences of at most four bytes. A span asks them so first, and after a no one by one. It stays beside `held` for speed alone:
-// some 105 instructions of the 167 of a span of one key (docs/PERFORMANCE.md, "Spans").
+// Questions 24 and 27 of the records that most sections with a scan part give, in few instructions: widths as
+// `usual_widths` has them, and sequences of at most four bytes. A span asks them so first, and after a no one by one.
+// It stays beside `held` for speed alone: some 105 instructions of the 167 of a span of one key (docs/PERFORMANCE.md,
+// "Spans"). The section and the sixteen numbers are handed on as C callers lend them: a view of both would take two
+// clauses of two functions, and be made for the one expression of `is_scan_record`.
 #![tactic(auto)]
 
 ghost use Rattle.std.specs.Prelude.{◌≡◌, true, ◌+◌, ◌*◌, ◌^◌, ◌≤◌, ◌<◌, length};
-ghost use Rattle.usual.specs.Internal.{usual_numbers, fields_match, start_matches, scan_matches, header_inside_of, ScanRecord};
+ghost use Rattle.usual.specs.Internal.{
+  usual_numbers,
+  fields_match,
+  start_matches,
+  scan_matches,
+  header_inside_of,
+  ScanRecord,
+};
 
 use encoding::Encoding;
 use num::LittleEndian;
@@ -51,7 +60,8 @@ fn start_matches(section: &[u8], numbers: &[u64; 16], arena: u64, scan: u64) -> 
                     & ((numbers[11] == scan) & (arena < scan)))))
 }
 
-// The scan part at a place that leaves room for it: 24 bytes of its header, four for each key, eight for its length, and the last five.
+// The scan part at a place that leaves room for it: 24 bytes of its header, four for each key, eight for its length,
+// and the last five.
 fn scan_matches(section: &[u8], n: u64, scan: usize) -> bool
     requires { scan + (37 + 4 * n) ≡ length section.now }
     ensures { result ≡ scan_matches section.now n scan }
@@ -61,8 +71,9 @@ fn scan_matches(section: &[u8], n: u64, scan: usize) -> bool
             & header::scan_settings(section, scan, n as usize))
 }
 
-// Does the section reach as far as a span reads of a key header: four bytes, two lengths, and the word that begins with the number of versions? The
-// load of the key's address, the first that may have to wait for memory, is made here, before the tests of 24.
+// Does the section reach as far as a span reads of a key header: four bytes, two lengths, and the word that begins with
+// the number of versions? The load of the key's address, the first that may have to wait for memory, is made here,
+// before the tests of 24.
 fn header_inside(section: &[u8], numbers: &[u64; 16], first: u64, scan: u64) -> bool
     requires { scan + 24 + 4 * first + 4 ≤ length section.now }
     ensures { result ≡ header_inside_of section.now numbers.now first scan }
@@ -76,8 +87,10 @@ fn header_inside(section: &[u8], numbers: &[u64; 16], first: u64, scan: u64) -> 
     arena + address + 14 <= all
 }
 
-// Are these numbers a record that the section gives, plain and with a scan part, and is the key one of those that it counts? A no says nothing: it is
-// also the answer to other widths, and to a key whose header is not inside the section.
+// Are these numbers a record that the section gives, plain and with a scan part, and is the key one of those that it
+// counts? A no says nothing: it is also the answer to other widths, and to a key whose header is not inside the
+// section.
+#[tactic(auto, using(num::proofs::Choice::false_true))]
 pub fn is_scan_record(section: &[u8], numbers: &[u64; 16], first: u64) -> bool
     ensures { result ≡ true → ScanRecord section.now numbers.now first }
 {

@@ -15,7 +15,8 @@ use Rattle.encoding.specs.Encoding.{Widths, key_header_len_of, version_len_of}
 use Rattle.header.specs.declared.Opened.{Opened}
 use Rattle.arena.specs.declared.KeyHeader.{KeyHeader}
 use Rattle.arena.specs.Key.{key_header_at}
-use Rattle.arena.proofs.Reading.{version_le, key_header_narrow}
+use Rattle.encoding.proofs.Lengths.{version_le}
+use Rattle.arena.proofs.Reading.{key_header_narrow}
 use Rattle.spans.specs.Span.{Pair, first_within, versions_start, next_address_of, values_from, pair_numbers}
 use Rattle.spans.specs.Internal.{is_given, pairs_of}
 use Rattle.spans.proofs.Keys as keys

@@ -121,6 +121,14 @@ module _ (s : List ℕ) (o : Opened) (first i : ℕ) (four : o.encoding.address 
         subst (λ (k : ℕ). SoFar s o first most k (at + (header + suffix) + versions * size)) d
         (subst⁻¹ (SoFar s o first most (suc i)) key_end_lem (more_so_far s o first most i next w (omega arith) (sym b ∙ a)))
 
+-- the same keys are whole
+pub whole_over : {s t : List ℕ} {o p : Opened} {first from count n : ℕ} → s ≡ t → o ≡ p → first ≡ from → count ≡ n
+    → WholeKeys s o first count → WholeKeys t p from n
+whole_over {s} {t} {o} {p} {first} {from} {count} {n} es eo ef ec w =
+    subst (λ (k : ℕ). WholeKeys t p from k) ec
+    (subst (λ (k : ℕ). WholeKeys t p k count) ef
+    (subst (λ (x : Opened). WholeKeys t x first count) eo (subst (λ (x : List ℕ). WholeKeys x o first count) es w)))
+
 -- ---- a record of the usual widths
 
 -- a record whose widths, but for that of sequences, are replaced

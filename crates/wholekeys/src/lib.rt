@@ -1,37 +1,34 @@
-// Judges whether the key records of a span are whole: then nothing of them is refused, and each key stands at its scan address.
+// Judges whether the key records of a span are whole: then nothing of them is refused, and each key stands at its scan
+// address.
 #![tactic(auto)]
 
 ghost use Rattle.std.specs.Prelude.{◌≡◌, true, ◌+◌, ◌*◌, ◌^◌, ◌<◌, ◌≤◌, length};
 ghost use Rattle.header.specs.Internal.{usual_widths};
-ghost use Rattle.spans.specs.Internal.{Spannable};
+ghost use Rattle.spans.specs.Span.{scan_address};
 ghost use Rattle.wholekeys.specs.Internal.{WholeKeys};
 
 use encoding::Encoding;
 use header::Opened;
 use num::LittleEndian;
+use spans::Store;
+use words::{Reads, Words};
 
-// The same record, with the widths that most sections have, but for that of sequences, as constants: the compiler then makes loops for them alone.
+// The same record, with the widths that most sections have, but for that of sequences, as constants: the compiler then
+// makes loops for them alone.
 pub fn with_usual_widths(o: Opened) -> Opened
     requires { usual_widths o.encoding ≡ true }
     ensures { result ≡ o }
 {
     let e = o.encoding;
     Opened {
-        seed: o.seed,
-        min_seq: o.min_seq,
-        count: o.count,
-        buckets: o.buckets,
-        arena: o.arena,
         encoding: Encoding {
             address: 4,
             key: 1,
             count: 1,
-            seq: e.seq,
             value: 2,
-            checksum: e.checksum,
+            ..e
         },
-        scan: o.scan,
-        packed: o.packed,
+        ..o
     }
 }
 
@@ -50,53 +47,96 @@ fn record_end(at: usize, start: usize, versions: usize, size: usize) -> usize
     at + start + versions * size
 }
 
-// Are the records of some keys whole, one behind the other, as their scan addresses say? Sums that might pass 2^64 are left to the walk from record to record.
-fn records_whole(section: &[u8], o: Opened, first: u64, count: u64) -> bool
-    requires spannable { Spannable o }
-    requires count_in_bounds { o.scan + 24 + 4 * (first + count) + 4 ≤ length section.now }
-    ensures { result ≡ true → WholeKeys section.now o first count }
-{
-    let e = o.encoding;
-    if !sums_fit(o) {
-        return false;
-    }
-    let key_mask = words::mask(e.key);
-    let count_mask = words::mask(e.count);
-    let header = e.key_header();
-    let size = e.version();
-    let lengths = e.address + e.key;
-    let read = o.arena + lengths + e.key + 8;
-    if section.len() < read {
-        return false;
-    }
-    let most = section.len() - read;
-    let mut table = o.scan + Encoding::SCAN_HEADER + 4 * first as usize;
-    let mut next = u32::read(section, table) as usize;
-    let mut sound = true;
-    for _ in 0..count {
-        let at = u32::read(section, table) as usize;
-        if most < at {
-            return false;
-        }
-        let pos = o.arena + at + lengths;
-        let suffix_len = words::masked(section, pos, e.key, key_mask) as usize;
-        let versions = words::masked(section, pos + e.key, e.count, count_mask) as usize;
-        // No branch here: behind one on `at == next` the compiler takes `next` for `at`, and each load needs the one before.
-        sound = sound & (at == next);
-        next = record_end(at, header + suffix_len, versions, size);
-        table += 4;
-    }
-    sound & (next <= most)
+// Some keys of a store, from one on: their scan addresses are inside the section, and so are four bytes behind the
+// last.
+#[derive(Clone, Copy)]
+pub struct Keys<'a> {
+    pub store: Store<'a>,
+    pub first: u64,
+    pub count: u64,
+    pub ghost addressed: { store.opened.scan + 24 + 4 * (first + count) + 4 ≤ length store.section.now },
 }
 
-// The same question; the widths that most sections have get a loop of their own.
-pub fn keys_whole(section: &[u8], o: Opened, first: u64, count: u64) -> bool
-    requires spannable { Spannable o }
-    requires count_in_bounds { o.scan + 24 + 4 * (first + count) + 4 ≤ length section.now }
-    ensures { result ≡ true → WholeKeys section.now o first count }
-{
-    if header::usual_widths(o.encoding) {
-        return records_whole(section, with_usual_widths(o), first, count);
+impl<'a> Keys<'a> {
+    // The same keys, of a record whose widths are constants.
+    pub fn with_usual_widths(&self) -> Keys<'a>
+        requires { usual_widths self.now.store.opened.encoding ≡ true }
+        ensures { (result.store.section.now ≡ self.now.store.section.now)
+            × (result.store.opened ≡ self.now.store.opened)
+            × (result.first ≡ self.now.first)
+            × (result.count ≡ self.now.count) }
+    {
+        let store = Store {
+            section: self.store.section,
+            opened: with_usual_widths(self.store.opened),
+        };
+        Keys {
+            store,
+            first: self.first,
+            count: self.count,
+        }
     }
-    records_whole(section, o, first, count)
+
+    // The scan address of the key so many places behind the first.
+    pub fn address(&self, i: u64) -> u32
+        requires { i ≤ self.now.count }
+        ensures { result ≡ scan_address self.now.store.section.now self.now.store.opened (self.now.first + i) }
+    {
+        let place = self.store.opened.scan + Encoding::SCAN_HEADER + 4 * (self.first + i) as usize;
+        u32::read(self.store.section, place)
+    }
+
+    // Are the records of the keys whole, one behind the other, as their scan addresses say? Sums that might pass 2^64
+    // are left to the walk from record to record.
+    #[tactic(auto, using(num::proofs::Choice::false_true, encoding::proofs::Widths::widths_le))]
+    fn records_whole(&self) -> bool
+        ensures { result ≡ true → WholeKeys self.now.store.section.now self.now.store.opened self.now.first
+            self.now.count }
+    {
+        let section = self.store.section;
+        let o = self.store.opened;
+        let layout = self.store.layout();
+        let e = o.encoding;
+        if !sums_fit(o) {
+            return false;
+        }
+        let key_lens = Words::of(e.key);
+        let counts = Words::of(e.count);
+        let header = layout.key_header();
+        let size = layout.version();
+        let lengths = e.address + e.key;
+        let read = o.arena + lengths + e.key + 8;
+        if section.len() < read {
+            return false;
+        }
+        let most = section.len() - read;
+        let mut next = self.address(0) as usize;
+        let mut sound = true;
+        // By index: the number of the key is its place in the table of scan addresses.
+        for i in 0..self.count {
+            let at = self.address(i) as usize;
+            if most < at {
+                return false;
+            }
+            let pos = o.arena + at + lengths;
+            let suffix_len = key_lens.masked(section, pos) as usize;
+            let versions = counts.masked(section, pos + e.key) as usize;
+            // No branch here: behind one on `at == next` the compiler takes `next` for `at`, and each load needs the
+            // one before.
+            sound = sound & (at == next);
+            next = record_end(at, header + suffix_len, versions, size);
+        }
+        sound & (next <= most)
+    }
+
+    // The same question; the widths that most sections have get a loop of their own.
+    pub fn are_whole(&self) -> bool
+        ensures { result ≡ true → WholeKeys self.now.store.section.now self.now.store.opened self.now.first
+            self.now.count }
+    {
+        if header::usual_widths(self.store.opened.encoding) {
+            return self.with_usual_widths().records_whole();
+        }
+        self.records_whole()
+    }
 }

@@ -1,6 +1,6 @@
 -- Keys whose records are whole in the section are read at their scan addresses, and nothing of them is refused.
 -- Assumes nothing.
-use mathlib.Core.Path.{◌≡◌, refl, sym, ap, ◌∙◌, subst⁻¹}
+use mathlib.Core.Path.{◌≡◌, refl, ap, ◌∙◌, subst⁻¹}
 use mathlib.Core.Bool.{true}
 use mathlib.Core.List.{List}
 use Prim.Native.Nat.{ℕ, zero, suc, ◌+◌, ◌*◌, ◌%◌, ◌^◌, ◌<◌, ◌≤◌}
@@ -22,7 +22,7 @@ use Rattle.spans.specs.Internal.{is_given}
 use Rattle.spans.proofs.Keys.{given_joined}
 use Rattle.wholekeys.specs.Internal.{record_end, key_end, WholeKeys}
 use Rattle.wholekeys.proofs.Records.{next_is}
-use Rattle.wholekeys.proofs.Whole.{table_place, table_address, address_is, key_end_lem}
+use Rattle.wholekeys.proofs.Whole.{table_place, address_is, key_end_lem}
 use Rattle.wholepairs.proofs.Versions.{room_given}
 
 -- the bytes of a key header, summed up as code does
@@ -98,9 +98,9 @@ module _ (s : List ℕ) (o : Opened) (first count i : ℕ) (four : o.encoding.ad
 
     -- the others are those from the next scan address on
     pub step_told : WholeKeys s o first count → Bytes s → (k : ℕ) → i + suc k ≡ count
-        → values_from k s o limit ((at + (header + suffix) + versions * size) % 2 ^ 32) ≡ values_from k s o limit (le_at s (table + 4) 4)
+        → values_from k s o limit ((at + (header + suffix) + versions * size) % 2 ^ 32) ≡ values_from k s o limit (scan_address s o (first + (i + 1)))
     step_told w b k h =
         ap (values_from k s o limit)
         (next_is s o limit at eh es ex ev ∙ ap (λ (a : ℕ). next_address_of o a (key_header_at s o.encoding (o.arena + a))) (address_is s o first i four place ea))
         ∙ rest_told s o first count w b four k i limit h
-        ∙ ap (values_from k s o limit) (sym (table_address s o four (first + suc i) (omega arith)))
+        ∙ let e : first + suc i ≡ first + (i + 1) = omega arith in ap (λ (n : ℕ). values_from k s o limit (scan_address s o n)) e

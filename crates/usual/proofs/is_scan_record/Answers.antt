@@ -1,29 +1,11 @@
 use mathlib.Core.Path.{refl, sym, ◌∙◌}
 use native.Mathlib.Omega.{arith}
 use Rattle.num.specs.Choice.{both}
-use Rattle.num.proofs.Choice.{both_true, false_true}
+use Rattle.num.proofs.Choice.{both_true}
 use Rattle.header.proofs.Questions.{begins_yes}
 use Rattle.lookup.proofs.Tests.{said_yes}
 use Rattle.usual.proofs.Facts.{scan_record}
 use Rattle.usual.proofs.is_scan_record.Goals as goal
-
-pub returns-then-n-first : goal.returns-then-n-first
-returns-then-n-first c = false_true
-
-pub returns-then-n-ge2147483648 : goal.returns-then-n-ge2147483648
-returns-then-n-ge2147483648 c = false_true
-
-pub returns-then-all-behind : goal.returns-then-all-behind
-returns-then-all-behind c = false_true
-
-pub returns-then-not-header_inside : goal.returns-then-not-header_inside
-returns-then-not-header_inside c = false_true
-
-pub returns-then-not-begins : goal.returns-then-not-begins
-returns-then-not-begins c = false_true
-
-pub returns-then-not-usual_numbers : goal.returns-then-not-usual_numbers
-returns-then-not-usual_numbers c = false_true
 
 pub fields_match-requires : goal.fields_match-requires
 fields_match-requires c =

@@ -7,5 +7,5 @@ use Rattle.wholepairs.proofs.put_newest.Given as goal
 
 abbrev pub invariant-loop : goal.invariant-loop
 invariant-loop l = (l.pairs ≡ l.initial.pairs)
-    × (l.pos + (l.versions - l.counter) * version_len_of l.o.encoding + 8 ≤ length l.section)
-    × (first_within (l.versions - l.counter) l.section l.o l.pos (l.o.min_seq + l.within) ≡ first_within l.versions l.section l.o l.from (l.o.min_seq + l.within))
+    × (l.pos + (l.versions - l.counter) * version_len_of l.store.opened.encoding + 8 ≤ length l.section)
+    × (first_within (l.versions - l.counter) l.section l.store.opened l.pos (l.store.opened.min_seq + l.within) ≡ first_within l.versions l.section l.store.opened l.from (l.store.opened.min_seq + l.within))
