@@ -1,24 +1,24 @@
 -- One seed, and the eight.
 -- Assumes nothing.
-use mathlib.Core.Path.{◌≡◌, refl, sym, ap, ◌∙◌}
+use mathlib.Core.Path.{◌≡◌, refl, sym, ap, ap₂, ◌∙◌}
 use mathlib.Core.Bool.{Bool, true, false}
 use mathlib.Core.List.{List, ◌++◌}
 use mathlib.Core.Option.{Option, some, none}
 use Prim.Native.Nat.{ℕ, zero, suc, ◌+◌, ◌*◌, ◌^◌, ◌<◌, ◌≤◌}
 use native.Mathlib.Omega.{arith}
-use lib.ListN.{length, take, drop, length-map, length-append, length-drop}
-use lib.Seq.{length-take-le, take_at}
+use lib.ListN.{length, take, drop, length-append, length-drop}
+use lib.Seq.{take_at}
 use Rattle.std.specs.Prelude.{Result, Ok, Err}
 use Rattle.refusal.specs.declared.Refusal.{Refusal}
 use Rattle.refusal.specs.declared.Refusal.TheVariants as refusal
 use Rattle.num.specs.Wrapping.{mul_mod}
-use Rattle.point.specs.Hash.{hash_step, mix_of, hash_value}
-use Rattle.construction.specs.Construct.{Placement, Constructed, seed_of, hashes_of, order_of, empty_placement, place_buckets, place_singles, singles_for, placement_of, construct_from, construct_of}
+use Rattle.point.specs.Hash.{hash_step, mix_of}
+use Rattle.std.proofs.Common.{replicate}
+use Rattle.construction.specs.Construct.{Placement, bucket_count, Constructed, seed_of, hashes_of, order_of, empty_placement, place_buckets, place_singles, singles_for, placement_of, construct_from, construct_of}
 use Rattle.construction.specs.Scratch.{placement_in}
 use Rattle.construction.specs.Internal.{Room, free_count, singles_in, served_as, place_defs}
 use Rattle.construction.proofs.Placing.{free_singles, differ_unasked}
-use Rattle.area.specs.Area.{keys_in_of}
-use Rattle.construct.proofs.Hashing.{keys_in_length}
+use Rattle.construct.proofs.Hashing.{hashes_length}
 
 -- ---- one seed
 
@@ -43,24 +43,22 @@ module _ (hs : List ℕ) (r : Bool) (t u : Placement) (e : served_as r t ≡ pla
   unfolding served_as singles_for
   seed_serves v n p = ap some p ∙ ap (λ (b : Bool). singles_for hs (served_as b t)) (sym n) ∙ answer
 
+-- no pilot is placed, and no slot taken
+pub cleared : (hs : List ℕ) {p q : List ℕ} {m n : ℕ} → p ≡ replicate m 0 → m ≡ bucket_count hs → q ≡ replicate n (length hs) → n ≡ length hs → record { pilots = p; slots = q } ≡ empty_placement hs
+unfolding empty_placement
+cleared hs ep em eq en = ap₂ (λ (a b : List ℕ). record { pilots = a; slots = b }) (ep ∙ ap (λ (k : ℕ). replicate k 0) em) (eq ∙ ap (λ (k : ℕ). replicate k (length hs)) en)
+
 -- ---- the hashes of a seed
 
-hashes_length : (area : List ℕ) (count seed : ℕ) → length (hashes_of (keys_in_of area count) seed) ≡ count
-unfolding hashes_of
-hashes_length area count seed = length-map (keys_in_of area count) (λ key. hash_value key seed) ∙ keys_in_length area count
-
-module _ (area h new : List ℕ) (count seed : ℕ) (stored : new ≡ hashes_of (keys_in_of area (length (take count h))) seed) (inside : count ≤ length h) where
-  new_is : new ≡ hashes_of (keys_in_of area count) seed
-  new_is = stored ∙ ap (λ (n : ℕ). hashes_of (keys_in_of area n) seed) (length-take-le count h inside)
-
+module _ (keys : List (List ℕ)) (h new : List ℕ) (count seed : ℕ) (size : length keys ≡ count) (stored : new ≡ hashes_of keys seed) (inside : count ≤ length h) where
   new_length : length new ≡ count
-  new_length = ap length new_is ∙ hashes_length area count seed
+  new_length = ap length stored ∙ hashes_length keys seed ∙ size
 
-  hashes_part : take count (new ++ drop count h) ≡ hashes_of (keys_in_of area count) seed
-  hashes_part = take_at new (drop count h) count new_length ∙ new_is
+  hashes_part : take count (new ++ drop count h) ≡ hashes_of keys seed
+  hashes_part = take_at new (drop count h) count new_length ∙ stored
 
-  pub hashes_first : take (length (keys_in_of area count)) (new ++ drop count h) ≡ hashes_of (keys_in_of area count) seed
-  hashes_first = ap (λ (k : ℕ). take k (new ++ drop count h)) (keys_in_length area count) ∙ hashes_part
+  pub hashes_first : take (length keys) (new ++ drop count h) ≡ hashes_of keys seed
+  hashes_first = ap (λ (k : ℕ). take k (new ++ drop count h)) size ∙ hashes_part
 
   pub hashes_size : length (new ++ drop count h) ≡ length h
   hashes_size = omega (arith, length-append new (drop count h), length-drop count h, new_length)
@@ -68,14 +66,14 @@ module _ (area h new : List ℕ) (count seed : ℕ) (stored : new ≡ hashes_of 
   pub hashes_room : (s : List ℕ) → 1 ≤ count → count ≤ 2 ^ 20 → 6 * count + 8 ≤ length s → Room (take count (new ++ drop count h)) s
   unfolding place_defs
   hashes_room s p q r =
-      let n = hashes_length area count seed in
+      let n = ap length (sym stored) ∙ new_length in
       rw hashes_part (record { some_key = omega arith; few = omega arith; room = omega arith })
 
   -- what one seed answers, said of the keys
   pub seed_answer : (r : Bool) (s : List ℕ) → served_as r (placement_in (length (take count (new ++ drop count h))) s) ≡ placement_of (take count (new ++ drop count h))
-      → served_as r (placement_in count s) ≡ placement_of (hashes_of (keys_in_of area count) seed)
+      → served_as r (placement_in count s) ≡ placement_of (hashes_of keys seed)
   seed_answer r s e =
-      ap (λ (n : ℕ). served_as r (placement_in n s)) (sym (ap length hashes_part ∙ hashes_length area count seed)) ∙ e ∙ ap placement_of hashes_part
+      ap (λ (n : ℕ). served_as r (placement_in n s)) (sym (ap length (hashes_part ∙ sym stored) ∙ new_length)) ∙ e ∙ ap placement_of hashes_part
 
 -- ---- the eight seeds
 

@@ -1,23 +1,16 @@
 -- Not on the reading path: what the contracts of private functions speak of.
-use Rattle.std.specs.Prelude.{Bool, true, false, List, [], ◌∷◌, ℕ, zero, suc, ◌+◌, ◌≤◌, ◌^◌, eqb, length, get_or}
+use Rattle.std.specs.Prelude.{Bool, true, false, List, [], ◌∷◌, ℕ, zero, suc, ◌+◌, ◌≤◌, ◌^◌, eqb, length}
 use Rattle.std.proofs.Math.Option.{Option, some, none}
 use Rattle.num.specs.Choice.{when◌then◌else◌}
-use Rattle.num.specs.Internal.{RegionHolds}
 use Rattle.encoding.specs.Encoding.{buckets_of}
-use Rattle.classes.specs.Internal.{Sorted}
-use Rattle.construction.specs.Construct.{Placement, bucket_count, key_buckets, order_of, size_of, is_free}
-use Rattle.construction.specs.Scratch.{starts_at, members_at, order_at, scratch_len, scratch_defs}
+use Rattle.construction.specs.Construct.{Placement, bucket_count, size_of, is_free}
+use Rattle.construction.specs.Scratch.{scratch_len, scratch_defs}
 
 -- hashes and a scratch that construction takes
 pub record Room (hs s : List ℕ) : Type 0 where
   pub some_key : 1 ≤ length hs
   pub few : length hs ≤ 2 ^ 20
   pub room : scratch_len (length hs) ≤ length s
-
--- the members of the buckets and the order of the buckets stand in the scratch
-pub record Arranged (hs s : List ℕ) : Type 0 where
-  pub members : Sorted (key_buckets hs) (bucket_count hs) starts_at (members_at (length hs)) s
-  pub order : RegionHolds s (order_at (length hs)) 0 (bucket_count hs) (λ i. get_or (order_of hs) i 0)
 
 -- how many of the first k slots are free
 unfoldable pub free_to : List ℕ → ℕ → ℕ

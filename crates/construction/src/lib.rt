@@ -2,13 +2,13 @@
 // scratch are.
 #![tactic(auto)]
 
-ghost use Rattle.std.specs.Prelude.{◌≡◌, ◌<◌, ◌≤◌, ◌^◌, length};
+ghost use Rattle.std.specs.Prelude.{◌≡◌, ◌+◌, ◌<◌, ◌≤◌, ◌^◌, length};
 ghost use Rattle.encoding.specs.Encoding.{buckets_of};
-ghost use Rattle.classes.specs.Internal.{Sorted};
-ghost use Rattle.construction.specs.Construct.{bucket_count, key_buckets, members_of};
-ghost use Rattle.construction.specs.Scratch.{starts_at, members_at, candidates_at, order_at, pilots_at, slots_at, indices_at};
+ghost use Rattle.classes.specs.Internal.{SortedParts};
+ghost use Rattle.construction.specs.Construct.{bucket_count, key_buckets, members_of, order_of};
+ghost use Rattle.construction.specs.Scratch.{members_at, candidates_at, order_at, pilots_at, slots_at, indices_at};
 
-// Where the regions of the scratch are. The first one, of `buckets + 2` places, is at 0.
+// Where the regions of the scratch are: C lends one slice for all. The first one, of `buckets + 2` places, is at 0.
 #[derive(Clone, Copy)]
 pub struct Regions {
     pub buckets: usize,
@@ -52,15 +52,27 @@ impl Regions {
     }
 }
 
-// The members of a bucket; `front` has those of all buckets, and where each bucket's start.
-#[tactic(auto, unfolding(crate::specs::Internal::place_defs))]
-pub fn members_of<'a>(hashes: &[u64], front: &'a [u32], bucket: usize) -> &'a [u32]
-    requires few { length hashes.now ≤ 2 ^ 20 }
-    requires sorted { Sorted (key_buckets hashes.now) (bucket_count hashes.now) starts_at (members_at (length hashes.now)) front.now }
-    requires inside { candidates_at (length hashes.now) ≤ length front.now }
-    requires bucket { bucket < bucket_count hashes.now }
-    ensures { result.now ≡ members_of hashes.now bucket }
-{
-    let first = Regions::of(hashes.len()).members;
-    &front[first + front[bucket] as usize..first + front[bucket + 1] as usize]
+// What a seed's placing reads: the hashes, the members of all buckets, bucket behind bucket, with where each bucket's
+// start, and the buckets by falling size, equal sizes by lower number.
+#[derive(Clone, Copy)]
+pub struct Arranged<'a> {
+    pub hashes: &'a [u64],
+    pub starts: &'a [u32],
+    pub members: &'a [u32],
+    pub order: &'a [u32],
+    pub ghost keys: { (1 ≤ length hashes.now) × (length hashes.now ≤ 2 ^ 20) },
+    pub ghost places: { (length starts.now ≡ bucket_count hashes.now + 2) × (length members.now ≡ length hashes.now) },
+    pub ghost sorted: { SortedParts (key_buckets hashes.now) (bucket_count hashes.now) starts.now members.now },
+    pub ghost ordered: { order.now ≡ order_of hashes.now },
+}
+
+impl<'a> Arranged<'a> {
+    // The members of a bucket.
+    #[tactic(auto, using(crate::proofs::Buckets::members_end, crate::proofs::Buckets::members_part))]
+    pub fn members_of(&self, bucket: usize) -> &'a [u32]
+        requires { bucket < bucket_count self.now.hashes.now }
+        ensures { result.now ≡ members_of self.now.hashes.now bucket }
+    {
+        &self.members[self.starts[bucket] as usize..self.starts[bucket + 1] as usize]
+    }
 }

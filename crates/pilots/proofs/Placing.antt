@@ -1,6 +1,6 @@
 -- The walk over the order of the buckets: placing those that are left, from the pilots and slots so far, gives what placing all gives.
 -- Assumes nothing.
-use Rattle.std.proofs.Common.{◌≡◌, ℕ, suc, ◌+◌, ◌-◌, ◌<◌, ◌≤◌, List, [], ◌∷◌, ◌++◌, false, length, get_or, set, take, drop, refl, sym, ap, ap₂, ◌∙◌, arith, length-set, length-append, append_assoc, drop-drop}
+use Rattle.std.proofs.Common.{◌≡◌, ℕ, suc, ◌+◌, ◌^◌, ◌<◌, ◌≤◌, List, [], ◌∷◌, false, length, get_or, set, take, drop, refl, sym, ap, ◌∙◌, arith, length-set}
 use mathlib.Core.Option.{Option, some, none}
 use native.Mathlib.Numerals.{add-one}
 use lib.Dec.{leb}
@@ -8,62 +8,12 @@ use lib.ListN.{drop_of_length-le}
 use lib.Seq.{drop-cons}
 use borrow.Author.Tests.{le-leb, lt-leb}
 use Rattle.num.proofs.Choice.{if_true, if_false}
-use Rattle.encoding.specs.Encoding.{buckets_of}
-use Rattle.classes.specs.Internal.{Sorted}
-use Rattle.construction.specs.Construct.{Placement, bucket_count, key_buckets, members_of, size_of, order_of, placeable, positions_of, filled, pilot_limit, bucket_placed, bucket_placed_for, least_pilot, place_bucket, place_buckets}
-use Rattle.construction.specs.Scratch.{starts_at, members_at, candidates_at, order_at, pilots_at, placement_in}
-use Rattle.construction.specs.Internal.{Room, Arranged, place_defs}
+use Rattle.construction.specs.Construct.{Placement, bucket_count, members_of, size_of, order_of, placeable, positions_of, filled, pilot_limit, bucket_placed, bucket_placed_for, least_pilot, place_bucket, place_buckets}
 use Rattle.construction.proofs.Buckets.{member_below}
-use Rattle.construction.proofs.Order.{size_few, order_below, order_length as order_size}
-use Rattle.construction.proofs.Scratch.{front_length, order_length, order_read, front_members, arranged_parts, placement_parts}
+use Rattle.construction.proofs.Order.{size_few, order_length as order_size}
 use Rattle.pilots.specs.Internal.{Fits, Found}
 use Rattle.pilots.proofs.Candidates.{positions_length, positions_below}
 use Rattle.pilots.proofs.Search.{least_some, least_none}
-
--- ---- the parts of the scratch
-
--- what stands before the candidates, and the order of the buckets
-pub record Parts (hs s front order : List ℕ) : Type 0 where
-  pub room : Room hs s
-  pub arranged : Arranged hs s
-  pub first : front ≡ take (candidates_at (length hs)) s
-  pub order_is : order ≡ take (bucket_count hs) (drop (order_at (length hs)) s)
-
-pub parts : {hs s front r₁ r₂ order : List ℕ} {at between count : ℕ} → Room hs s → Arranged hs s → at ≡ candidates_at (length hs) → between ≡ order_at (length hs) → count ≡ buckets_of (length hs)
-    → front ≡ take at s → r₁ ≡ drop at s → r₂ ≡ drop (between - at) r₁ → order ≡ take count r₂ → Parts hs s front order
-unfolding place_defs
-parts {hs} {s} {front} {r₁} {r₂} {order} {at} {between} {count} room a e₁ e₂ e₃ first f₁ f₂ f₃ =
-    let place : at + (between - at) ≡ order_at (length hs) = omega arith in
-    record {
-      room = room;
-      arranged = a;
-      first = first ∙ ap (λ (n : ℕ). take n s) e₁;
-      order_is = f₃ ∙ ap (take count) (f₂ ∙ ap (drop (between - at)) f₁ ∙ drop-drop (between - at) at s) ∙ ap₂ (λ (m n : ℕ). take m (drop n s)) e₃ place;
-    }
-
-module _ {hs s front order : List ℕ} (p : Parts hs s front order) where
-  pub parts_members : Sorted (key_buckets hs) (bucket_count hs) starts_at (members_at (length hs)) front
-  parts_members = front_members p.room p.arranged p.first p.order_is
-
-  pub parts_read : {k : ℕ} → k < bucket_count hs → get_or order k 0 ≡ get_or (order_of hs) k 0
-  parts_read {k} h = order_read p.room p.arranged p.first p.order_is k h
-
-  pub parts_below : {k : ℕ} → k < bucket_count hs → get_or order k 0 < bucket_count hs
-  parts_below {k} h = rw (parts_read h) (order_below hs k h)
-
-  -- written back
-  module _ (between pilots slots behind : List ℕ) (room : length between ≡ length hs + 3) where
-    pub parts_arranged : Arranged hs (front ++ (between ++ (order ++ (pilots ++ (slots ++ behind)))))
-    parts_arranged = arranged_parts p.room p.arranged p.first p.order_is between (pilots ++ (slots ++ behind)) room
-
-    pub parts_placement : length pilots ≡ bucket_count hs → length slots ≡ length hs
-        → placement_in (length hs) (front ++ (between ++ (order ++ (pilots ++ (slots ++ behind))))) ≡ record { pilots = pilots; slots = slots }
-    unfolding place_defs
-    parts_placement e f =
-        let before : length (front ++ (between ++ order)) ≡ pilots_at (length hs) =
-        omega (arith, length-append front (between ++ order), length-append between order, front_length p.room p.arranged p.first p.order_is, order_length p.room p.arranged p.first p.order_is) in
-        ap (placement_in (length hs)) (ap (λ (l : List ℕ). front ++ l) (sym (append_assoc between order (pilots ++ (slots ++ behind)))) ∙ sym (append_assoc front (between ++ order) (pilots ++ (slots ++ behind))))
-        ∙ placement_parts (length hs) (front ++ (between ++ order)) pilots slots behind before e f
 
 -- a bucket's members, with room for their search, and the slots that it finds
 module _ (hs : List ℕ) {members : List ℕ} (x : ℕ) (em : members ≡ members_of hs x) where
@@ -71,13 +21,13 @@ module _ (hs : List ℕ) {members : List ℕ} (x : ℕ) (em : members ≡ member
   unfolding size_of
   members_few = omega (arith, ap length em, size_few hs x)
 
-  pub members_fit : {s slots candidates indices : List ℕ} → Room hs s → length slots ≡ length hs → length hs ≤ length candidates → length hs ≤ length indices
+  pub members_fit : {slots candidates indices : List ℕ} → 1 ≤ length hs → length hs ≤ 2 ^ 20 → length slots ≡ length hs → length hs ≤ length candidates → length hs ≤ length indices
       → Fits hs members slots candidates indices
   unfolding size_of
-  members_fit room e c i =
+  members_fit one few e c i =
       record {
-        some_key = room.some_key;
-        few = room.few;
+        some_key = one;
+        few = few;
         size = members_few;
         keys = λ j h. rw em (member_below hs x j (omega (arith, ap length em)));
         slots_length = e;

@@ -1,7 +1,6 @@
 -- Not on the reading path: what the contracts of private functions speak of.
 use Rattle.std.specs.Prelude.{◌≡◌, true, false, List, ℕ, ◌<◌, ◌≤◌, ◌^◌, Option, Some, None, length, get_or, take}
 use Rattle.construction.specs.Construct.{placeable, positions_of, pilot_limit}
-use Rattle.construction.specs.Internal.{place_defs}
 
 -- the members of a bucket, the slots of all keys, and room for the search
 pub record Fits (hs members slots candidates indices : List ℕ) : Type 0 where
@@ -32,8 +31,3 @@ pub record Found (hs slots members : List ℕ) (pilot : ℕ) (candidates : List 
 abbrev pub Searched : List ℕ → List ℕ → List ℕ → Option ℕ → List ℕ → Type 0
 Searched hs slots members (Some pilot) candidates = Found hs slots members pilot candidates
 Searched hs slots members None candidates = (p : ℕ) → p < pilot_limit → placeable slots (positions_of hs members p) ≡ false
-
--- for proofs alone: `unfolding places` opens the places of the scratch in numbers
-unfoldable pub places : ℕ
-unfolding place_defs
-places = 0

@@ -1,15 +1,15 @@
 // Pilots for the buckets of two and more keys, in their order: the least pilot under which a bucket's slots are free
-// and different.
+// and different. A free slot holds the number of keys, and is no `Option`: the slots stand in the scratch, which is
+// 32-bit numbers that C lends.
 #![tactic(auto)]
 
 ghost use Rattle.std.specs.Prelude.{◌≡◌, true, ℕ, ◌<◌, ◌≤◌, length, get_or, take};
 ghost use Rattle.num.specs.Choice.{one_of};
-ghost use Rattle.construction.specs.Construct.{order_of, filled, placeable, positions_of, place_buckets};
-ghost use Rattle.construction.specs.Scratch.{placement_in};
-ghost use Rattle.construction.specs.Internal.{Room, Arranged, served_as};
+ghost use Rattle.construction.specs.Construct.{bucket_count, order_of, filled, placeable, positions_of, place_buckets};
+ghost use Rattle.construction.specs.Internal.{served_as};
 ghost use Rattle.pilots.specs.Internal.{Fits, Indexed, Searched, few};
 
-use construction::Regions;
+use construction::Arranged;
 
 // Pilots are below this.
 const LIMIT: u32 = 100_000;
@@ -31,7 +31,8 @@ fn is_candidate(candidates: &[u32], indices: &[u32], at: u32) -> bool
 }
 
 // Are the members' slots under a pilot free and different? If so, they are the first candidates. The five slices stay
-// parameters: a struct over them would want a clause for each `&mut` in it, in both functions and the loops.
+// parameters: a struct over them would want a clause for each `&mut` in it, in both functions and the loops. So would
+// one over candidates and indices, or over pilots and slots, in all that place buckets.
 fn try_pilot(
     hashes: &[u64],
     members: &[u32],
@@ -42,7 +43,8 @@ fn try_pilot(
 ) -> bool
     requires { Fits hashes.now members.now slots.now candidates.old indices.old }
     ensures answer { result ≡ placeable slots.now (positions_of hashes.now members.now pilot) }
-    ensures chosen { result ≡ true → take (length members.now) candidates.new ≡ positions_of hashes.now members.now pilot }
+    ensures chosen { result ≡ true
+        → take (length members.now) candidates.new ≡ positions_of hashes.now members.now pilot }
     ensures lengths { (length candidates.new ≡ length candidates.old) × (length indices.new ≡ length indices.old) }
 {
     for (j, member) in members.iter().enumerate() {
@@ -60,7 +62,7 @@ fn try_pilot(
     true
 }
 
-// The least pilot that serves the members, if there is one.
+// The least pilot that serves the members, if there is one. It is a number that is sought, no index: a range.
 fn find_pilot(
     hashes: &[u64],
     members: &[u32],
@@ -80,7 +82,8 @@ fn find_pilot(
     None
 }
 
-// Stores each member in its candidate.
+// Stores each member in its candidate. By index: the definition drops as many of both lists, and one number says it of
+// both.
 fn fill_slots(members: &[u32], candidates: &[u32], slots: &mut [u32])
     requires length { length candidates.now ≡ length members.now }
     requires slots { (j : ℕ) → j < length candidates.now → get_or candidates.now j 0 < length slots.old }
@@ -92,29 +95,32 @@ fn fill_slots(members: &[u32], candidates: &[u32], slots: &mut [u32])
 }
 
 // Places all buckets of two members and more, in their order, as long as each finds a pilot.
-#[tactic(auto, unfolding(crate::specs::Internal::places))]
-pub fn place_buckets(hashes: &[u64], scratch: &mut [u32]) -> bool
-    requires room { Room hashes.now scratch.old }
-    requires arranged { Arranged hashes.now scratch.old }
-    ensures scratch_len_unchanged { length scratch.new ≡ length scratch.old }
-    ensures arranged { Arranged hashes.now scratch.new }
-    ensures scratch_after { served_as result (placement_in (length hashes.now) scratch.new) ≡ place_buckets hashes.now (placement_in (length hashes.now) scratch.old) (order_of hashes.now) }
+#[tactic(auto, using(construction::proofs::Order::read_below, crate::proofs::Placing::found_length))]
+pub fn place_buckets(
+    arranged: &Arranged<'_>,
+    candidates: &mut [u32],
+    indices: &mut [u32],
+    pilots: &mut [u32],
+    slots: &mut [u32],
+) -> bool
+    requires room { (length arranged.now.hashes.now ≤ length candidates.old)
+        × (length arranged.now.hashes.now ≤ length indices.old) }
+    requires places { (length pilots.old ≡ bucket_count arranged.now.hashes.now)
+        × (length slots.old ≡ length arranged.now.hashes.now) }
+    ensures room_unchanged { (length candidates.new ≡ length candidates.old)
+        × (length indices.new ≡ length indices.old) }
+    ensures places_unchanged { (length pilots.new ≡ length pilots.old) × (length slots.new ≡ length slots.old) }
+    ensures placed { served_as result (record { pilots = pilots.new; slots = slots.new })
+        ≡ place_buckets arranged.now.hashes.now (record { pilots = pilots.old; slots = slots.old })
+        (order_of arranged.now.hashes.now) }
 {
-    let keys = hashes.len();
-    let at = Regions::of(keys);
-    let (front, rest) = scratch.split_at_mut(at.candidates);
-    let (candidates, rest) = rest.split_at_mut(at.order - at.candidates);
-    let (order, rest) = rest.split_at_mut(at.buckets);
-    let (pilots, rest) = rest.split_at_mut(at.buckets);
-    let (slots, indices) = rest.split_at_mut(keys);
-    let front = &front[..];
-    for x in &order[..] {
+    for x in arranged.order {
         let x = *x as usize;
-        let members = construction::members_of(hashes, front, x);
+        let members = arranged.members_of(x);
         if members.len() < 2 {
             continue;
         }
-        let Some(pilot) = find_pilot(hashes, members, slots, candidates, indices) else {
+        let Some(pilot) = find_pilot(arranged.hashes, members, slots, candidates, indices) else {
             return false;
         };
         fill_slots(members, &candidates[..members.len()], slots);

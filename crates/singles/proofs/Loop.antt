@@ -1,19 +1,14 @@
 -- The walk over the order of the buckets: what is left to place, from the pilots and slots so far, gives what was to be placed at first.
 -- Assumes nothing.
-use Rattle.std.proofs.Common.{◌≡◌, ℕ, suc, ◌+◌, ◌-◌, ◌^◌, ◌<◌, ◌≤◌, Bool, true, false, List, ◌∷◌, eqb, length, get_or, take, drop, set, refl, sym, ap, ap₂, ◌∙◌, subst, arith, length-take-le, eqb-true}
+use Rattle.std.proofs.Common.{◌≡◌, ℕ, suc, ◌+◌, ◌-◌, ◌^◌, ◌<◌, ◌≤◌, Bool, true, false, List, ◌∷◌, eqb, length, get_or, drop, set, refl, sym, ap, ap₂, ◌∙◌, subst, arith, eqb-true}
 use native.Mathlib.Numerals.{add-one}
 use lib.ListN.{drop_of_length-le}
 use lib.Seq.{drop-cons}
 use borrow.Author.Tests.{eqb-false}
-use Rattle.num.proofs.Lists.{part_at}
-use Rattle.num.proofs.Regions.{region_at}
 use Rattle.construction.specs.Construct.{Placement, bucket_count, members_of, size_of, order_of, is_free, free_from, least_free, place_single, place_singles}
-use Rattle.construction.specs.Scratch.{order_at, pilots_at}
-use Rattle.construction.specs.Internal.{Room, Arranged, place_defs}
 use Rattle.construction.proofs.Buckets.{member_below}
 use Rattle.construction.proofs.Free.{store_taken, store_other, before_least}
-use Rattle.construction.proofs.Order.{order_length, order_below}
-use Rattle.construction.proofs.Scratch.{arranged_first}
+use Rattle.construction.proofs.Order.{order_length}
 use Rattle.construction.proofs.Singles.{Left, single_is, single_not, single_free, single_left}
 use Rattle.singles.proofs.Free.{free_behind}
 
@@ -23,23 +18,6 @@ pub record Running (hs : List ℕ) (t₀ : Placement) (k from : ℕ) (pilots slo
   pub taken : (i : ℕ) → i < from → is_free slots i ≡ false
   pub left : Left hs (record { pilots = pilots; slots = slots }) (drop k (order_of hs))
   pub same : place_singles hs (record { pilots = pilots; slots = slots }) (drop k (order_of hs)) ≡ place_singles hs t₀ (order_of hs)
-
--- ---- what the code reads, of what stands before the pilots
-
-module _ {hs s front : List ℕ} (room : Room hs s) (st : Arranged hs s) {p : ℕ} (ep : p ≡ pilots_at (length hs)) (ef : front ≡ take p s) where
-  pub front_arranged : Arranged hs front
-  front_arranged = rw (ef, ep) (arranged_first hs s st)
-
-  module _ {order k : ℕ} (eo : order ≡ order_at (length hs)) (h : k < bucket_count hs) where
-    pub bucket_is : get_or (take (length front - order) (drop order front)) k 0 ≡ get_or (order_of hs) k 0
-    unfolding place_defs
-    bucket_is =
-        let r = room.room in
-        let n : length front ≡ p = ap length ef ∙ length-take-le p s (omega arith) in
-        part_at front order (length front - order) k 0 (omega arith) ∙ region_at front_arranged.order (order + k) k (omega arith) (omega arith) h
-
-    pub bucket_below : get_or (take (length front - order) (drop order front)) k 0 < bucket_count hs
-    bucket_below = rw bucket_is (order_below hs k h)
 
 -- ---- one bucket after another
 

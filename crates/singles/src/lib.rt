@@ -1,14 +1,15 @@
-// Buckets of one key: each takes the least free slot, which its pilot names.
+// Buckets of one key: each takes the least free slot, which its pilot names. A free slot holds the number of keys, as
+// in `pilots`.
 #![tactic(auto)]
 
 ghost use Rattle.std.specs.Prelude.{◌≡◌, ◌-◌, ◌≤◌, length};
-ghost use Rattle.construction.specs.Construct.{order_of, free_from, place_singles};
-ghost use Rattle.construction.specs.Scratch.{placement_in};
-ghost use Rattle.construction.specs.Internal.{Room, Arranged, free_count, singles_in};
+ghost use Rattle.construction.specs.Construct.{bucket_count, order_of, free_from, place_singles};
+ghost use Rattle.construction.specs.Internal.{free_count, singles_in};
 
-use construction::Regions;
+use construction::Arranged;
 
-// The first free slot from one on; the slot behind them, if none is free.
+// The first free slot from one on; the slot behind them, if none is free. By `position` over the slots from there on
+// the proof didn't close. `from` stays beside the slots: it is one of their numbers, as the answer is.
 fn next_free(slots: &[u32], from: usize) -> usize
     requires { from ≤ length slots.now }
     ensures first { result ≡ free_from (length slots.now - from) slots.now from }
@@ -23,24 +24,20 @@ fn next_free(slots: &[u32], from: usize) -> usize
 }
 
 // The buckets of one key, in the order of the buckets.
-#[tactic(auto, unfolding(crate::specs::Internal::places))]
-pub fn place_singles(hashes: &[u64], scratch: &mut [u32])
-    requires room { Room hashes.now scratch.old }
-    requires arranged { Arranged hashes.now scratch.old }
-    requires scratch_value { free_count (placement_in (length hashes.now) scratch.old).slots ≡ singles_in hashes.now (order_of hashes.now) }
-    ensures scratch_len_unchanged { length scratch.new ≡ length scratch.old }
-    ensures scratch_after { placement_in (length hashes.now) scratch.new ≡ place_singles hashes.now (placement_in (length hashes.now) scratch.old) (order_of hashes.now) }
+#[tactic(auto, using(construction::proofs::Order::read_below))]
+pub fn place_singles(arranged: &Arranged<'_>, pilots: &mut [u32], slots: &mut [u32])
+    requires places { (length pilots.old ≡ bucket_count arranged.now.hashes.now)
+        × (length slots.old ≡ length arranged.now.hashes.now) }
+    requires free { free_count slots.old ≡ singles_in arranged.now.hashes.now (order_of arranged.now.hashes.now) }
+    ensures places_unchanged { (length pilots.new ≡ length pilots.old) × (length slots.new ≡ length slots.old) }
+    ensures placed { record { pilots = pilots.new; slots = slots.new }
+        ≡ place_singles arranged.now.hashes.now (record { pilots = pilots.old; slots = slots.old })
+        (order_of arranged.now.hashes.now) }
 {
-    let keys = hashes.len();
-    let at = Regions::of(keys);
-    let (arranged, rest) = scratch.split_at_mut(at.pilots);
-    let (pilots, rest) = rest.split_at_mut(at.buckets);
-    let slots = &mut rest[..keys];
-    let arranged = &arranged[..];
     let mut from = 0;
-    for x in &arranged[at.order..] {
+    for x in arranged.order {
         let x = *x as usize;
-        let members = construction::members_of(hashes, arranged, x);
+        let members = arranged.members_of(x);
         if members.len() == 1 {
             let free = next_free(slots, from);
             pilots[x] = point::DIRECT + free as u32;

@@ -1,5 +1,5 @@
 use Rattle.std.proofs.Common.{◌≡◌, length}
-use Rattle.area.specs.Area.{keys_in_of}
+use Rattle.area.specs.Walk.{keys_of}
 use Rattle.construct.proofs.Seeds.{Trying}
 use Rattle.construct.proofs.construct.Given as goal
 
@@ -9,5 +9,5 @@ invariant-loop-k l =
     record {
       hashes_length : length l.hashes ≡ length l.fn.hashes;
       scratch_length : length l.scratch ≡ length l.fn.scratch;
-      trying : Trying (keys_in_of l.area l.count) l.k;
+      trying : Trying (keys_of l.keys) l.k;
     }

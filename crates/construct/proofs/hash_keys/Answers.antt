@@ -1,22 +1,21 @@
-use Rattle.std.proofs.Common.{ℕ, List, refl, ap, ◌∙◌, arith}
+use Rattle.std.proofs.Common.{ℕ, List, sym, ap, ap₂, ◌∙◌, arith}
 use Rattle.point.specs.Hash.{hash_value}
-use Rattle.area.specs.Area.{next_head}
-use Rattle.construct.proofs.Hashing.{hashing_start, hashing_done, next_inside, hashing_turn}
+use Rattle.area.specs.Area.{area_key}
+use Rattle.construct.proofs.Hashing.{keys_length, hashing_turn, hashing_end, hashing_done}
 use Rattle.construct.proofs.hash_keys.Goals as goal
-
-pub loop-hash-init : goal.loop-hash-init
-loop-hash-init c = hashing_start _ c.requires
-
-pub invariant_of-key : goal.invariant_of-key
-unfolding next_head
-invariant_of-key c = record { inside = omega (arith, next_inside c.loop-hash.invariant c.loop-hash-test.true) }
-
-pub end-head-requires : goal.end-head-requires
-end-head-requires c = next_inside c.loop-hash.invariant c.loop-hash-test.true
 
 pub loop-hash-preserved : goal.loop-hash-preserved
 loop-hash-preserved c =
-    hashing_turn c.loop-hash.invariant c.loop-hash-test.true _ _ c.end-head.ensures (c.hash.ensures ∙ ap (λ (key : List ℕ). hash_value key c.args.seed) c.bytes.ensures)
+    let l = c.loop-hash in
+    record {
+      turns = omega (arith, l.invariant.turns, c.rest-left.ensures.count);
+      same = hashing_turn _ _ c.args.seed _ _ _ _ (omega (arith, l.invariant.turns)) l.invariant.same
+          _ (c.hash.ensures ∙ ap (λ (key : List ℕ). hash_value key c.args.seed) (c.bytes.ensures ∙ ap₂ area_key c.first.ensures.0 c.first.ensures.1))
+          _ c.rest-left.ensures.count _ c.rest-left.ensures.area _ c.rest-left.ensures.head;
+    }
 
 pub returns : goal.returns
-returns c = hashing_done c.loop-hash.invariant refl (omega arith)
+returns c =
+    let l = c.loop-hash in
+    hashing_done _ _ _ _ (c.requires ∙ sym (keys_length _ _ _))
+    (hashing_end l.left.area.now l.left.head c.args.seed l.hashes l.hash-index l.left.count (omega (arith, l.invariant.turns)) ∙ l.invariant.same)

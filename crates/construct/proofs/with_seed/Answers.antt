@@ -1,16 +1,17 @@
-use mathlib.Core.Path.{◌∙◌}
-use Rattle.arrange.proofs.Arranging.{room_kept}
-use Rattle.construct.proofs.Seeds.{seed_fails, seed_free, seed_serves}
+use Rattle.std.proofs.Common.{◌∙◌, ap, arith, length}
+use Rattle.construction.specs.Internal.{place_defs, served_as}
+use Rattle.construction.proofs.Scratch.{placement_all}
+use Rattle.construct.proofs.Seeds.{cleared}
 use Rattle.construct.proofs.with_seed.Goals as goal
 
-pub returns-then-not-place_buckets : goal.returns-then-not-place_buckets
-returns-then-not-place_buckets c =
-    record { scratch_len_unchanged = c.place_buckets.ensures.scratch_len_unchanged ∙ c.clear.ensures.scratch_len_unchanged ∙ c.arrange.ensures.scratch_len_unchanged; scratch_after = seed_fails _ _ _ _ c.place_buckets.ensures.scratch_after c.clear.ensures.scratch_after _ c.if-not-place_buckets.true }
+pub place-requires-clause-empty : goal.place-requires-clause-empty
+unfolding place_defs
+place-requires-clause-empty c = cleared _ (c.fill.ensures.after (λ y e. e)) (omega arith) (c.fill-2.ensures.after (λ y e. e)) (omega arith)
 
-pub place_singles-requires : goal.place_singles-requires
-place_singles-requires c =
-    record { room = room_kept c.requires (c.place_buckets.ensures.scratch_len_unchanged ∙ c.clear.ensures.scratch_len_unchanged ∙ c.arrange.ensures.scratch_len_unchanged); arranged = c.place_buckets.ensures.arranged; scratch_value = seed_free _ _ _ _ c.place_buckets.ensures.scratch_after c.clear.ensures.scratch_after c.if-not-place_buckets.false }
-
-pub returns : goal.returns
-returns c =
-    record { scratch_len_unchanged = c.place_singles.ensures.scratch_len_unchanged ∙ c.place_buckets.ensures.scratch_len_unchanged ∙ c.clear.ensures.scratch_len_unchanged ∙ c.arrange.ensures.scratch_len_unchanged; scratch_after = seed_serves _ _ _ _ c.place_buckets.ensures.scratch_after c.clear.ensures.scratch_after _ c.if-not-place_buckets.false c.place_singles.ensures.scratch_after }
+pub returns-clause-scratch_after : goal.returns-clause-scratch_after
+unfolding place_defs
+returns-clause-scratch_after c =
+    let all =
+    placement_all (length c.args.hashes.now) c.sort_members.new.starts c.sort_members.new.members c.place.new.candidates c.sort_buckets.new.order c.place.new.pilots c.place.new.slots c.place.new.indices
+    (omega arith) (omega arith) (omega arith) (omega arith) (omega arith) (omega arith) in
+    ap (served_as c.place.result) all ∙ c.place.ensures.placed

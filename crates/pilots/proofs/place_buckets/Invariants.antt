@@ -1,5 +1,4 @@
 use Rattle.std.proofs.Common.{◌≡◌, length}
-use Rattle.construction.specs.Scratch.{placement_in}
 use Rattle.pilots.proofs.Placing.{Placing}
 use Rattle.pilots.proofs.place_buckets.Given as goal
 
@@ -7,7 +6,7 @@ use Rattle.pilots.proofs.place_buckets.Given as goal
 abbrev pub invariant-loop-x : goal.invariant-loop-x
 invariant-loop-x l =
     record {
-      candidates_length : length l.candidates ≡ length l.initial.candidates;
-      indices_length : length l.indices ≡ length l.initial.indices;
-      placing : Placing l.hashes (placement_in (length l.hashes) l.fn.scratch) l.x-index l.pilots l.slots;
+      candidates_length : length l.candidates ≡ length l.fn.candidates;
+      indices_length : length l.indices ≡ length l.fn.indices;
+      placing : Placing l.arranged.hashes.now (record { pilots = l.fn.pilots; slots = l.fn.slots }) l.x-index l.pilots l.slots;
     }
