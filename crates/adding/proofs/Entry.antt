@@ -1,6 +1,6 @@
 -- An entry that is taken: its room, its bytes in the area, its record.
 -- Assumes nothing.
-use mathlib.Core.Path.{◌≡◌, sym, ap, ◌∙◌}
+use mathlib.Core.Path.{◌≡◌, refl, sym, ap, ◌∙◌}
 use mathlib.Core.Bool.{true, false}
 use mathlib.Core.List.{List, ◌++◌}
 use Prim.Native.Nat.{ℕ, ◌+◌, ◌≤◌}
@@ -15,7 +15,9 @@ use Rattle.builder.specs.declared.Builder.{Builder}
 use Rattle.area.specs.Area.{head_len, area_version_len, area_versions}
 use Rattle.builder.specs.Offer.{Offer, head_bytes, version_bytes, entry_len}
 use Rattle.builder.specs.Record.{builder_after}
-use Rattle.builder.specs.Add.{versions_with, area_after_of, counted_of}
+use Rattle.std.specs.Prelude.{Result}
+use Rattle.refusal.specs.declared.Refusal.{Refusal}
+use Rattle.builder.specs.Add.{versions_with, area_after_of, counted_of, add_of, refusal_in, RefusedWith}
 use Rattle.builder.specs.Internal.{Passed}
 use Rattle.builder.proofs.Standing.{Keyed, stood, follows_key}
 use Rattle.num.proofs.Stores.{behind}
@@ -66,3 +68,8 @@ pub counted_record : (area : List ℕ) (b : Builder) (e : Offer) (n : ℕ) (r : 
 unfolding counted_of
 counted_record area b e n r c f =
     f ∙ ap (λ (k : ℕ). builder_after area b (record { key = e.key; count = k; size = length e.value; seq = e.seq; offset = e.offset; new_key = e.new_key })) c
+
+-- what the questions answer of every offer of these lengths, they answer of this one
+pub asked_here : (area : List ℕ) (b : Builder) (e : Offer) (r : Result (Unit {0}) Refusal) → RefusedWith area b (length e.key) (length e.value) e.new_key e.offset r
+    → r ≡ refusal_in (add_of area b e)
+asked_here area b e r h = h.each e (record { key_len = refl; value_len = refl; new_key = refl; offset = refl })

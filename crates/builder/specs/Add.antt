@@ -1,5 +1,5 @@
 -- Adding an entry to a builder: questions 30 to 34 and 37 (document 01, "Building").
-use Rattle.std.specs.Prelude.{ℕ, ◌+◌, ◌^◌, List, ◌++◌, leb, ltb, length, Result, Ok, Err}
+use Rattle.std.specs.Prelude.{◌≡◌, ℕ, ◌+◌, ◌^◌, Bool, List, ◌++◌, leb, ltb, length, Result, Ok, Err}
 use Rattle.std.proofs.lemmas.List.Edits.{sets}
 use Rattle.num.specs.Choice.{when◌then◌else◌, ask◌otherwise◌then◌, both, either}
 use Rattle.num.specs.Number.{le_bytes}
@@ -46,9 +46,20 @@ add_of area b e =
     Ok (record { area = area_after_of area b e; builder = builder_after area b (counted_of area b e) })
 
 -- what the questions answer, without what an add gives
-unfoldable pub asked_of : {A : Type 0} → Result A Refusal → Result (Unit {0}) Refusal
-asked_of (Ok x) = Ok tt
-asked_of (Err e) = Err e
+unfoldable pub refusal_in : {A : Type 0} → Result A Refusal → Result (Unit {0}) Refusal
+refusal_in (Ok x) = Ok tt
+refusal_in (Err e) = Err e
+
+-- an offer with a key and a value of these lengths, this mark and this offset
+pub record Like (e : Offer) (keyLen valueLen : ℕ) (new : Bool) (place : ℕ) : Type 0 where
+  pub key_len : length e.key ≡ keyLen
+  pub value_len : length e.value ≡ valueLen
+  pub new_key : e.new_key ≡ new
+  pub offset : e.offset ≡ place
+
+-- what the questions answer of every such offer
+pub record RefusedWith (area : List ℕ) (b : Builder) (keyLen valueLen : ℕ) (new : Bool) (place : ℕ) (answer : Result (Unit {0}) Refusal) : Type 0 where
+  pub each : (e : Offer) → Like e keyLen valueLen new place → answer ≡ refusal_in (add_of area b e)
 
 -- the record, or the refusal
 unfoldable pub added_builder : Result BuilderState Refusal → Result Builder Refusal
@@ -62,5 +73,5 @@ added_area (Err e) before = before
 
 -- for proofs alone: `unfolding add_defs` opens the definitions of this file
 unfoldable pub add_defs : ℕ
-unfolding versions_with area_after_of counted_of add_of asked_of added_builder added_area
+unfolding versions_with area_after_of counted_of add_of refusal_in added_builder added_area
 add_defs = 0

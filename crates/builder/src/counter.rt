@@ -20,9 +20,9 @@ pub struct Counter<'a> {
 
 impl<'a> Counter<'a> {
     // How many bytes a new key shares with the latest anchor.
-    #[tactic(auto, unfolding(crate::specs::Record::shared_with, crate::specs::Record::anchor_next, area::specs::Area::area_defs, num::specs::Choice::choice_defs))]
-    fn shared_with(self, key: &[u8]) -> usize
-        ensures { result ≡ shared_with self.entry.area.now self.entry.builder key.now }
+    #[tactic(auto, unfolding(crate::specs::Internal::shared_defs))]
+    fn shared_with(&self, key: &[u8]) -> usize
+        ensures { result ≡ shared_with self.now.area.now self.now.builder key.now }
     {
         let b = self.builder;
         if b.totals.keys % Encoding::GROUP as u64 == 0 {
@@ -36,9 +36,10 @@ impl<'a> Counter<'a> {
     }
 
     // How many bytes an entry adds to the suffixes.
-    #[tactic(auto, using(crate::proofs::Standing::shared_le), unfolding(num::specs::Choice::choice_defs))]
-    fn suffix_len(self, key: &[u8], new_key: bool) -> u64
-        ensures { result ≡ (when new_key then length key.now - shared_with self.entry.area.now self.entry.builder key.now else 0) }
+    #[tactic(auto, using(crate::proofs::Standing::shared_le), unfolding(crate::specs::Internal::shared_defs))]
+    fn suffix_len(&self, key: &[u8], new_key: bool) -> u64
+        ensures { result ≡ (when new_key then length key.now - shared_with self.now.area.now self.now.builder key.now
+            else 0) }
     {
         if !new_key {
             return 0;
@@ -47,9 +48,9 @@ impl<'a> Counter<'a> {
     }
 
     // The totals with an entry.
-    #[tactic(auto, using(crate::proofs::Standing::shared_le), unfolding(crate::specs::Record::totals_after, num::specs::Choice::choice_defs))]
-    fn totals_after(self, tally: Tally<'_>) -> Totals
-        ensures { result ≡ totals_after self.entry.area.now self.entry.builder (counted tally.entry) }
+    #[tactic(auto, using(crate::proofs::Standing::shared_le), unfolding(crate::specs::Internal::after_defs))]
+    fn totals_after(&self, tally: Tally<'_>) -> Totals
+        ensures { result ≡ totals_after self.now.area.now self.now.builder (counted tally.entry) }
     {
         let t = self.builder.totals;
         let key_len = tally.key.len() as u64;
@@ -75,9 +76,9 @@ impl<'a> Counter<'a> {
     }
 
     // The record with an entry, which stands behind the used bytes.
-    #[tactic(auto, unfolding(crate::specs::Record::builder_after, crate::specs::Record::anchor_next, num::specs::Choice::choice_defs))]
-    pub fn builder_after(self, tally: Tally<'_>) -> Builder
-        ensures { result ≡ builder_after self.entry.area.now self.entry.builder (counted tally.entry) }
+    #[tactic(auto, unfolding(crate::specs::Internal::after_defs))]
+    pub fn builder_after(&self, tally: Tally<'_>) -> Builder
+        ensures { result ≡ builder_after self.now.area.now self.now.builder (counted tally.entry) }
     {
         let b = self.builder;
         let anchors = tally.new_key & (b.totals.keys % Encoding::GROUP as u64 == 0);

@@ -9,19 +9,15 @@ use lib.Seq.{sets}
 use Rattle.std.specs.Prelude.{Result, Ok, Err}
 use Rattle.num.specs.Choice.{when◌then◌else◌}
 use Rattle.refusal.specs.declared.Refusal.{Refusal}
-use Rattle.refusal.specs.Refusal.{refusal_number, answer_number}
-use Rattle.refusal.proofs.Asked.{refused_ok, same_ok}
+use Rattle.refusal.specs.Refusal.{refusal_number, answer_number, answer_left}
+use Rattle.refusal.proofs.Asked.{refused_ok, same_ok, same_refusal}
 use Rattle.sstable.specs.declared.Kind.{Kind}
 use Rattle.sstable.specs.declared.Kind.TheVariants.{Put, Tombstone}
 use Rattle.builder.specs.declared.Builder.{Builder}
 use Rattle.builder.specs.Add.{BuilderState, add_of, added_builder}
 use Rattle.writing.specs.Wrote.{wrote_read}
 use Rattle.numbers.specs.BuilderNumbers.{builder_numbers, builder_in}
-use Rattle.builds.specs.Built.{offer_from, builder_written, size_written, section_len_written}
-
--- a refusal is one refusal
-same_err : {A : Type 0} {e r : Refusal} → ◌≡◌ {A = Result A Refusal} (Err e) (Err r) → e ≡ r
-same_err e = cc
+use Rattle.builds.specs.Built.{offer_from, builder_written, section_len_written}
 
 -- ---- adding
 
@@ -48,29 +44,18 @@ pub added_refused : (x : Result BuilderState Refusal) (r : Refusal) (before : Li
     → (refusal_number r ≡ answer_number x) × (before ≡ builder_written x before)
 unfolding added_builder answer_number builder_written
 added_refused (Ok s) r before e = refused_ok e
-added_refused (Err q) r before e = (ap refusal_number (same_err e), refl)
-
--- ---- sizing
-
-pub sized_told : (x : Result ℕ Refusal) (n before : ℕ) → Ok n ≡ x → (0 ≡ answer_number x) × (n ≡ size_written x before)
-unfolding answer_number size_written
-sized_told (Ok m) n before e = (refl, same_ok e)
-sized_told (Err q) n before e = refused_ok (sym e)
-
-pub sized_refused : (x : Result ℕ Refusal) (r : Refusal) (before : ℕ) → Err r ≡ x → (refusal_number r ≡ answer_number x) × (before ≡ size_written x before)
-unfolding answer_number size_written
-sized_refused (Ok m) r before e = refused_ok e
-sized_refused (Err q) r before e = (ap refusal_number (same_err e), refl)
+added_refused (Err q) r before e = (ap refusal_number (same_refusal e), refl)
 
 -- ---- writing
 
-pub wrote_bytes : (x : Result (List ℕ) Refusal) (n before : ℕ) → Ok n ≡ wrote_read x → (0 ≡ answer_number x) × (n ≡ section_len_written x before)
-unfolding wrote_read answer_number section_len_written
-wrote_bytes (Ok s) n before e = (refl, same_ok e)
-wrote_bytes (Err q) n before e = refused_ok (sym e)
+-- the length behind writing is what an answer leaves of it
+pub length_left : (x : Result (List ℕ) Refusal) (before : ℕ) → answer_left (wrote_read x) before ≡ section_len_written x before
+unfolding wrote_read section_len_written
+length_left (Ok s) before = refl
+length_left (Err e) before = refl
 
-pub wrote_refused : (x : Result (List ℕ) Refusal) (r : Refusal) (before : ℕ) → Err r ≡ wrote_read x
-    → (refusal_number r ≡ answer_number x) × (before ≡ section_len_written x before)
-unfolding wrote_read answer_number section_len_written
-wrote_refused (Ok s) r before e = refused_ok e
-wrote_refused (Err q) r before e = (ap refusal_number (same_err e), refl)
+-- and its number is the number of writing
+pub number_left : (x : Result (List ℕ) Refusal) → answer_number (wrote_read x) ≡ answer_number x
+unfolding wrote_read answer_number
+number_left (Ok s) = refl
+number_left (Err e) = refl

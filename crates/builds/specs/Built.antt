@@ -1,6 +1,7 @@
 -- What the entries of building are given, answer, and leave in the memory that they are lent.
 use Rattle.std.specs.Prelude.{ℕ, List, true, false, eqb, length, Result, Ok, Err}
 use Rattle.std.proofs.lemmas.List.Edits.{sets}
+use Rattle.refusal.specs.Refusal.{answer_left}
 use Rattle.refusal.specs.declared.Refusal.{Refusal}
 use Rattle.num.specs.Choice.{when◌then◌else◌}
 use Rattle.sstable.specs.declared.Kind.TheVariants.{Put, Tombstone}
@@ -28,8 +29,7 @@ builder_written (Err e) before = before
 
 -- the size behind its telling: the section's length, or what stood there
 unfoldable pub size_written : Result ℕ Refusal → ℕ → ℕ
-size_written (Ok n) before = n
-size_written (Err e) before = before
+size_written = answer_left
 
 -- the length behind writing: the number of bytes written, or what stood there
 unfoldable pub section_len_written : Result (List ℕ) Refusal → ℕ → ℕ

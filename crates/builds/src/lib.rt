@@ -1,4 +1,5 @@
-// The entries of building, over sixteen numbers as the builder's record.
+// The entries of building, over sixteen numbers as the builder's record. C calls them: `add`, `size` and `write` answer
+// the number of a refusal and 0 for none, and take each thing by itself, since its interface has no enums and structs.
 #![tactic(auto)]
 
 ghost use Rattle.std.specs.Prelude.{◌≡◌, true, false, eqb, length};
@@ -14,7 +15,8 @@ ghost use Rattle.builds.specs.Built.{offer_from, builder_written, size_written, 
 use builder::Entry;
 use sstable::Kind;
 
-// Kinds and marks are numbers here since the interface for C has no enums.
+// Kinds and marks are numbers here since the interface for C has no enums. It is no `From` of a kind: any number but 0
+// is a tombstone for a caller, and in a block each kind has a number of its own.
 #[tactic(auto, unfolding(num::specs::Choice::choice_defs))]
 fn kind_from(tombstone: u64) -> Kind
     ensures { result ≡ (when eqb tombstone 0 then Put else Tombstone) }
@@ -39,9 +41,12 @@ pub fn add(
     new_key: u64,
     offset: u64,
 ) -> u64
-    ensures { (result ≡ answer_number (add_of area.old (builder_in builder.old) (offer_from tombstone key.now value.now sequence new_key offset)))
-        × (area.new ≡ added_area (add_of area.old (builder_in builder.old) (offer_from tombstone key.now value.now sequence new_key offset)) area.old)
-        × (builder.new ≡ builder_written (add_of area.old (builder_in builder.old) (offer_from tombstone key.now value.now sequence new_key offset)) builder.old) }
+    ensures { (result ≡ answer_number (add_of area.old (builder_in builder.old)
+        (offer_from tombstone key.now value.now sequence new_key offset)))
+        × (area.new ≡ added_area (add_of area.old (builder_in builder.old)
+        (offer_from tombstone key.now value.now sequence new_key offset)) area.old)
+        × (builder.new ≡ builder_written (add_of area.old (builder_in builder.old)
+        (offer_from tombstone key.now value.now sequence new_key offset)) builder.old) }
 {
     let b = numbers::read_builder(builder);
     let offer = Entry {
@@ -63,18 +68,13 @@ pub fn add(
 
 // Tells how many bytes the section of a builder will have with a scan prefix: 0, or 37, which leaves the size as it
 // was.
+#[tactic(auto, unfolding(crate::specs::Built::size_written))]
 pub fn size(builder: &[u64; 16], prefix: u64, size: &mut u64) -> u64
     ensures { (result ≡ answer_number (size_of_section (builder_in builder.now) prefix))
         × (size.new ≡ size_written (size_of_section (builder_in builder.now) prefix) size.old) }
 {
     let b = numbers::read_builder(builder);
-    match builder::size(b, prefix) {
-        Ok(n) => {
-            *size = n;
-            0
-        }
-        Err(refusal) => refusal.number(),
-    }
+    refusal::answered(b.size(prefix), size)
 }
 
 // Writes the section of a builder with a scan prefix, and how many bytes it has: 0, or the number of the first question
@@ -88,18 +88,16 @@ pub fn write(
     output: &mut [u8],
     len: &mut u64,
 ) -> u64
-    ensures { (result ≡ answer_number (write_of area.now (builder_in builder.now) prefix (length scratch64.old) (length scratch32.old) (length output.old)))
-        × (output.new ≡ section_written (write_of area.now (builder_in builder.now) prefix (length scratch64.old) (length scratch32.old) (length output.old)) output.old)
-        × (len.new ≡ section_len_written (write_of area.now (builder_in builder.now) prefix (length scratch64.old) (length scratch32.old) (length output.old)) len.old)
+    ensures { (result ≡ answer_number (write_of area.now (builder_in builder.now) prefix
+        (length scratch64.old) (length scratch32.old) (length output.old)))
+        × (output.new ≡ section_written (write_of area.now (builder_in builder.now) prefix
+        (length scratch64.old) (length scratch32.old) (length output.old)) output.old)
+        × (len.new ≡ section_len_written (write_of area.now (builder_in builder.now) prefix
+        (length scratch64.old) (length scratch32.old) (length output.old)) len.old)
         × (length scratch64.new ≡ length scratch64.old)
         × (length scratch32.new ≡ length scratch32.old) }
 {
     let b = numbers::read_builder(builder);
-    match writing::write(area, b, prefix, scratch64, scratch32, output) {
-        Ok(n) => {
-            *len = n;
-            0
-        }
-        Err(refusal) => refusal.number(),
-    }
+    let written = writing::write(area, b, prefix, scratch64, scratch32, output);
+    refusal::answered(written, len)
 }

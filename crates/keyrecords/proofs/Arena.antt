@@ -18,7 +18,7 @@ use Rattle.num.proofs.Regions.{region_none, region_more, frame_none, frame_set}
 use Rattle.encoding.specs.declared.Encoding.{Encoding}
 use Rattle.encoding.specs.Encoding.{group, key_header_len_of}
 use Rattle.area.specs.Area.{area_key_len, area_key, first_version_at, next_head, keys_end}
-use Rattle.area.proofs.Keys.{keys_next}
+use Rattle.area.proofs.Heads.{keys_next}
 use Rattle.num.proofs.Stores.{behind}
 use Rattle.written.specs.Joined.{joined}
 use Rattle.written.specs.Arena.{KeyGroup, group_anchor, group_shared, group_address, group_bytes, arena_written}

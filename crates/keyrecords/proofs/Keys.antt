@@ -13,7 +13,7 @@ use Rattle.num.specs.Order.{common_prefix_len}
 use Rattle.encoding.specs.declared.Encoding.{Encoding}
 use Rattle.encoding.specs.Encoding.{group, key_header_len_of}
 use Rattle.area.specs.Area.{area_version_len, area_key_len, area_versions, area_key, first_version_at, next_head, keys_end}
-use Rattle.area.proofs.Keys.{keys_next, keys_rise}
+use Rattle.area.proofs.Heads.{keys_next, keys_rise}
 use Rattle.written.specs.Arena.{StoredVersion, KeyGroup, no_stored, no_group, group_key, group_versions, group_version, group_anchor, group_shared, group_suffix, group_address, group_header, group_bytes, GroupsFit}
 use Rattle.written.proofs.Arena.{suffix_length}
 use Rattle.writer.specs.Write.{stored_at, stored_from, group_at_of, groups_from, groups_in}

@@ -1,32 +1,41 @@
-// The versions of a key written from the builder's area.
+// The versions of a key written from the builder's area. The output has a place beside it, as in `num::put_uint` and in
+// the numbers' own `write`, to which each step hands both on: in a struct they would be taken apart again each time.
 #![tactic(auto)]
 
 ghost use Rattle.std.specs.Prelude.{◌≡◌, ◌+◌, ◌*◌, ◌≤◌, length};
 ghost use Rattle.std.proofs.lemmas.List.Edits.{sets};
 ghost use Rattle.num.specs.Choice.{when◌then◌else◌};
 ghost use Rattle.num.specs.Number.{le_at};
-ghost use Rattle.encoding.specs.Encoding.{Widths, version_len_of};
+ghost use Rattle.encoding.specs.Encoding.{version_len_of};
 ghost use Rattle.area.specs.Area.{area_size};
 ghost use Rattle.written.specs.Joined.{fields_bytes};
 ghost use Rattle.written.specs.Arena.{marked_size, checksum_fields, stored_fields, stored_bytes};
 ghost use Rattle.writer.specs.Write.{stored_at, stored_from};
 ghost use Rattle.keyversions.specs.Internal.{VersionsStand};
 
-use area::VERSION;
-use encoding::Encoding;
+use area::{VERSION, Version};
+use encoding::Layout;
 use num::LittleEndian;
+use sstable::Kind;
 
-// The kind byte of a tombstone.
-const TOMBSTONE: u8 = 2;
+// What a section is written from: the builder's area and how many keys it has, and in which widths and less which
+// least sequence their numbers are stored.
+#[derive(Clone, Copy)]
+pub struct Source<'a> {
+    pub area: &'a [u8],
+    pub keys: usize,
+    pub layout: Layout,
+    pub least: u64,
+}
 
 // A value's length with the top bit set for a tombstone.
-fn marked_size(area: &[u8], place: usize, e: Encoding) -> u64
-    requires { Widths e × (place + 25 ≤ length area.now) }
-    ensures { result ≡ marked_size e (stored_at area.now place).kind (area_size area.now place) }
+fn marked_size(version: &Version<'_>, layout: Layout) -> u64
+    ensures { result ≡ marked_size layout.encoding (stored_at version.now.area.now version.now.place).kind
+        (area_size version.now.area.now version.now.place) }
 {
-    let size = u32::read(area, place + 9) as u64;
-    if area[place + 8] == TOMBSTONE {
-        e.tombstone() + size
+    let size = version.size() as u64;
+    if version.kind() == u8::from(Kind::Tombstone) {
+        layout.tombstone() + size
     } else {
         size
     }
@@ -42,42 +51,46 @@ fn put_checksum(output: &mut [u8], at: usize, present: bool, checksum: u32)
     }
 }
 
-// Writes the numbers of the version at a place of the area.
-fn put_stored(output: &mut [u8], at: usize, area: &[u8], place: usize, e: Encoding, least: u64)
-    requires widths { Widths e × (place + 25 ≤ length area.now) × (least ≤ le_at area.now place 8) }
-    requires e_in_bounds { at + version_len_of e ≤ length output.old }
-    ensures { output.new ≡ sets output.old at (fields_bytes (stored_fields e least (stored_at area.now place))) }
-{
-    let value = at + e.seq;
-    let offset = value + e.value;
-    let checksum = offset + e.address;
-    let crc = u32::read(area, place + 21);
-    num::put_uint(output, at, e.seq, u64::read(area, place) - least);
-    num::put_uint(output, value, e.value, marked_size(area, place, e));
-    num::put_uint(output, offset, e.address, u64::read(area, place + 13));
-    put_checksum(output, checksum, e.checksum, crc);
-}
-
-// Writes so many versions from a place of the area on, and answers the place behind them.
-pub fn put_versions(
-    output: &mut [u8],
-    at: usize,
-    area: &[u8],
-    first: usize,
-    count: usize,
-    e: Encoding,
-    least: u64,
-) -> usize
-    requires widths { Widths e × VersionsStand area.now first count least }
-    requires e_in_bounds { at + count * version_len_of e ≤ length output.old }
-    ensures output_after { output.new ≡ sets output.old at (stored_bytes e least (stored_from count area.now first)) }
-    ensures value { result ≡ at + count * version_len_of e }
-{
-    let size = e.version();
-    let mut end = at;
-    for j in 0..count {
-        put_stored(output, end, area, first + VERSION * j, e, least);
-        end += size;
+impl Source<'_> {
+    // Writes the numbers of a version.
+    #[tactic(auto, unfolding(encoding::specs::Encoding::version_len_of))]
+    fn put_stored(&self, version: &Version<'_>, output: &mut [u8], at: usize)
+        requires least_first { self.now.least ≤ le_at version.now.area.now version.now.place 8 }
+        requires room { at + version_len_of self.now.layout.encoding ≤ length output.old }
+        ensures { output.new ≡ sets output.old at
+            (fields_bytes (stored_fields self.now.layout.encoding self.now.least
+            (stored_at version.now.area.now version.now.place))) }
+    {
+        let e = self.layout.encoding;
+        let value = at + e.seq;
+        let offset = value + e.value;
+        let checksum = offset + e.address;
+        num::put_uint(output, at, e.seq, version.seq() - self.least);
+        num::put_uint(output, value, e.value, marked_size(version, self.layout));
+        num::put_uint(output, offset, e.address, version.offset());
+        put_checksum(output, checksum, e.checksum, version.checksum());
     }
-    end
+
+    // Writes so many versions from a place of the area on, and answers the place behind them.
+    pub fn put_versions(&self, first: usize, count: usize, output: &mut [u8], at: usize) -> usize
+        requires stand { VersionsStand self.now.area.now first count self.now.least }
+        requires room { at + count * version_len_of self.now.layout.encoding ≤ length output.old }
+        ensures output_after { output.new ≡ sets output.old at
+            (stored_bytes self.now.layout.encoding self.now.least (stored_from count self.now.area.now first)) }
+        ensures value { result ≡ at + count * version_len_of self.now.layout.encoding }
+    {
+        let size = self.layout.version();
+        let area = self.area;
+        let mut end = at;
+        // A version's number gives its place: there is no list to go over.
+        for j in 0..count {
+            let version = Version {
+                area,
+                place: first + VERSION * j,
+            };
+            self.put_stored(&version, output, end);
+            end += size;
+        }
+        end
+    }
 }

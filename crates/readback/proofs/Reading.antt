@@ -4,6 +4,7 @@ use mathlib.Core.Path.{◌≡◌, refl, sym, ap, ◌∙◌, subst⁻¹}
 use mathlib.Core.Bool.{Bool, true, false}
 use mathlib.Core.List.{List, [], ◌∷◌}
 use Rattle.std.specs.Prelude.{Option, Some, None}
+use Rattle.std.proofs.lemmas.Option.{none-some}
 use Prim.Native.Nat.{ℕ, zero, suc, ◌+◌, ◌-◌, ◌*◌, ◌≤◌, ◌<◌}
 use native.Mathlib.Omega.{arith}
 use native.Mathlib.Numerals.{add-one}
@@ -24,9 +25,6 @@ use Rattle.readback.specs.ReadBack.{counted_at, version_read, versions_read, ver
 use Rattle.readback.specs.Places.{area_version_at, head_at_of, AreaKeyStands, AreaStands}
 use Rattle.readback.specs.Internal.{Running}
 
-none_some : (q : Builder) → None ≡ Some q → ⊥
-none_some q e = let z : ◌≡◌ {A = ℕ} 0 1 = cc in omega arith
-
 -- ---- a version
 
 -- what its questions say of a version that was read
@@ -43,11 +41,11 @@ pub version_stands : (area : List ℕ) (end : ℕ) (r : Builder) (head place cou
     → version_read area end r head place count new ≡ Some q → VersionStands area end r head place count new q
 unfolding version_read within_limits
 version_stands area end r head place count new q e =
-    let p₀ = if_first _ _ _ _ (none_some q) e in
-    let p₁ = if_first _ _ _ _ (none_some q) p₀.1 in
-    let p₂ = if_first _ _ _ _ (none_some q) p₁.1 in
-    let p₃ = if_first _ _ _ _ (none_some q) p₂.1 in
-    let p₄ = if_first _ _ _ _ (none_some q) p₃.1 in
+    let p₀ = if_first _ _ _ _ (none-some q) e in
+    let p₁ = if_first _ _ _ _ (none-some q) p₀.1 in
+    let p₂ = if_first _ _ _ _ (none-some q) p₁.1 in
+    let p₃ = if_first _ _ _ _ (none-some q) p₂.1 in
+    let p₄ = if_first _ _ _ _ (none-some q) p₃.1 in
     let l = both_true _ _ p₂.0 in
     record {
       inside = leb-true _ _ p₀.0;
@@ -107,7 +105,7 @@ module _ (area : List ℕ) (end : ℕ) (r : Builder) (h : Running area end r) wh
 -- what goes on after a reading that gave a record
 pub follows : (o : Option Builder) (next : Builder → Option Builder) (q : Builder) → elim o [ Some p ↦ next p | None ↦ None ] ≡ Some q
     → (p : Builder) × (o ≡ Some p) × (next p ≡ Some q)
-follows None next q e = absurd (none_some q e)
+follows None next q e = absurd (none-some q e)
 follows (Some p) next q e = (p, refl, e)
 
 -- one of them
@@ -199,7 +197,7 @@ first area end r len count q z l h e =
 versions_follow : (left : ℕ) (area : List ℕ) (end : ℕ) (o : Option Builder) (q : Builder) → versions_read_for left area end o ≡ Some q
     → (p : Builder) × (o ≡ Some p) × (versions_read left area end p 1 ≡ Some q)
 unfolding versions_read_for
-versions_follow left area end None q e = absurd (none_some q e)
+versions_follow left area end None q e = absurd (none-some q e)
 versions_follow left area end (Some p) q e = (p, refl, e)
 
 -- its first version gave a record, and its further ones behind that gave what came out
@@ -212,9 +210,9 @@ pub record KeyParts (area : List ℕ) (end : ℕ) (r q : Builder) : Type 0 where
 pub key_parts : (area : List ℕ) (end : ℕ) (r q : Builder) → key_read area end r ≡ Some q → KeyParts area end r q
 unfolding key_read
 key_parts area end r q e =
-    let p₀ = if_first _ _ _ _ (none_some q) e in
-    let p₁ = if_first _ _ _ _ (none_some q) p₀.1 in
-    let p₂ = if_first _ _ _ _ (none_some q) p₁.1 in
+    let p₀ = if_first _ _ _ _ (none-some q) e in
+    let p₁ = if_first _ _ _ _ (none-some q) p₀.1 in
+    let p₂ = if_first _ _ _ _ (none-some q) p₁.1 in
     let f = versions_follow (area_versions area r.used - 1) area end (version_read area end r r.used (r.used + head_len + area_key_len area r.used) 1 true) q p₂.1 in
     record { some_version = ltb-true 0 (area_versions area r.used) p₂.0; behind = f.0; one = f.1; more = f.2 }
 
@@ -264,7 +262,7 @@ one_more area end r q s (u, ks) =
 pub keys_kept : (P : Builder → Type 0) (most : ℕ) (area : List ℕ) (end : ℕ) → ((p s : Builder) → P p → key_read area end p ≡ Some s → P s)
     → (r q : Builder) → P r → keys_read most area end r ≡ Some q → P q × (end ≤ q.used)
 unfolding keys_read
-keys_kept P zero area end step r q h e = absurd (none_some q e)
+keys_kept P zero area end step r q h e = absurd (none-some q e)
 keys_kept P (suc most) area end step r q h e = go (leb end r.used) refl e (λ p. keys_kept P most area end step p q)
   where
     go : (t : Bool) → leb end r.used ≡ t → elim t [ true ↦ Some r | false ↦ elim (key_read area end r) [ Some q ↦ keys_read most area end q | None ↦ None ] ] ≡ Some q

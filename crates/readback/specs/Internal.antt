@@ -1,10 +1,11 @@
 -- Not on the reading path: what the functions of this crate hand to each other.
 use Rattle.std.specs.Prelude.{ℕ, ◌+◌, ◌^◌, ◌≤◌, ◌<◌, Bool, List, [], ◌∷◌, leb, length}
-use Rattle.num.specs.Choice.{when◌then◌else◌, both, one_of}
+use Rattle.num.specs.Choice.{when◌then◌else◌, both, one_of, choice_defs}
 use Rattle.sstable.specs.Limits.{within_limits}
 use Rattle.builder.specs.declared.Builder.{Builder}
-use Rattle.area.specs.Area.{head_len, area_key_len, area_kind, area_size, area_offset}
+use Rattle.area.specs.Area.{head_len, area_key_len, area_kind, area_size, area_offset, area_defs}
 use Rattle.builder.specs.Add.{max_keys}
+use Rattle.readback.specs.ReadBack.{counted_at, version_read, versions_read_for, key_read, same_totals, reads_back_for, reads_back_of}
 
 -- the questions of a version but that of its end
 unfoldable pub version_passes : List ℕ → Builder → ℕ → ℕ → Bool → Bool
@@ -27,3 +28,20 @@ pub record Running (area : List ℕ) (end : ℕ) (r : Builder) : Type 0 where
   pub suffix_bytes : r.totals.suffix_bytes ≤ r.used
   pub last : 0 < r.totals.keys → r.last_key + head_len + area_key_len area r.last_key ≤ r.used
   pub anchor : 0 < r.totals.keys → r.anchor + head_len + area_key_len area r.anchor ≤ r.used
+
+-- for proofs alone: what a version is asked, what reading one and a key answers, and what is compared at the end
+unfoldable pub passing_defs : ℕ
+unfolding version_passes area_defs choice_defs
+passing_defs = 0
+
+unfoldable pub version_defs : ℕ
+unfolding version_read counted_at version_passes area_defs choice_defs
+version_defs = 0
+
+unfoldable pub key_defs : ℕ
+unfolding key_read versions_read_for area_defs choice_defs
+key_defs = 0
+
+unfoldable pub back_defs : ℕ
+unfolding reads_back_of reads_back_for same_totals choice_defs
+back_defs = 0

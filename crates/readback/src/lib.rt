@@ -1,31 +1,40 @@
 // Reading the builder's area back: question 37 of writing.
 #![tactic(auto)]
 
-ghost use Rattle.std.specs.Prelude.{◌≡◌, true, ◌+◌, ◌-◌, ◌≤◌, ◌<◌, length};
+ghost use Rattle.std.specs.Prelude.{◌≡◌, true, [], ◌∷◌, ◌+◌, ◌-◌, ◌≤◌, ◌<◌, length};
+ghost use Rattle.num.specs.Choice.{one_of};
 ghost use Rattle.area.specs.Area.{area_key_len};
 ghost use Rattle.builder.specs.Record.{sizeable};
 ghost use Rattle.readback.specs.ReadBack.{version_read, versions_read, key_read, area_read, reads_back_of};
 ghost use Rattle.readback.specs.Internal.{LentArea, Running, version_passes};
 
-use area::Key;
+use area::{Key, Version};
 use builder::{Builder, Counter, Tally};
 use encoding::Totals;
 use num::LittleEndian;
+use sstable::Kind;
 
-// Is the kind of a version at a place known, and are 30, 32 and 33 answered with yes?
-#[tactic(auto, unfolding(crate::specs::Internal::version_passes, area::specs::Area::area_defs, num::specs::Choice::choice_defs))]
-fn version_passes(area: &[u8], r: Builder, len: usize, place: usize, new_key: bool) -> bool
-    requires { place + 25 ≤ length area.now }
-    ensures { result ≡ version_passes area.now r len place new_key }
+// Is a byte the number of a kind?
+#[tactic(auto, using(crate::proofs::Known::kind_known))]
+fn is_kind(number: u8) -> bool
+    ensures { result ≡ one_of (1 ∷ 2 ∷ []) number }
+{
+    Kind::try_from(number).is_ok()
+}
+
+// Is the kind of a version known, and are 30, 32 and 33 answered with yes?
+#[tactic(auto, unfolding(crate::specs::Internal::passing_defs))]
+fn version_passes(version: &Version<'_>, r: Builder, key_len: usize, new_key: bool) -> bool
+    ensures { result ≡ version_passes version.now.area.now r key_len version.now.place new_key }
 {
     let t = r.totals;
-    matches!(area[place + 8], 1 | 2)
-        && sstable::mutation(len, u32::read(area, place + 9) as usize)
-        && t.last_value_offset <= u64::read(area, place + 13)
+    is_kind(version.kind())
+        && sstable::mutation(key_len, version.size() as usize)
+        && t.last_value_offset <= version.offset()
         && builder::few_keys(t.keys, new_key)
 }
 
-// What was read of the area before an end.
+// What was read of the area before an end, which stays beside it: the definitions read the lent area up to an end.
 #[derive(Clone, Copy)]
 struct Progress<'a> {
     area: &'a [u8],
@@ -37,20 +46,24 @@ struct Progress<'a> {
 
 impl<'a> Progress<'a> {
     // The version at a place, of the key whose head stands at another.
-    #[tactic(auto, unfolding(crate::specs::ReadBack::version_read, crate::specs::ReadBack::counted_at, crate::specs::Internal::version_passes, area::specs::Area::area_defs, num::specs::Choice::choice_defs))]
+    #[tactic(auto, unfolding(crate::specs::Internal::version_defs))]
     fn version(self, head: u64, place: u64, count: u64, new_key: bool) -> Option<Builder>
         requires { (head + 8 + area_key_len self.area.now head ≤ self.end) × (place ≤ self.end) }
         ensures { result ≡ version_read self.entry.area.now self.entry.end self.entry.read head place count new_key }
     {
         let area = self.area;
-        let at = place as usize;
+        if self.end < place + area::VERSION as u64 {
+            return None;
+        }
         let key = Key {
             area,
             head: head as usize,
         };
-        if self.end < place + area::VERSION as u64
-            || !version_passes(area, self.read, key.len(), at, new_key)
-        {
+        let version = Version {
+            area,
+            place: place as usize,
+        };
+        if !version_passes(&version, self.read, key.len(), new_key) {
             return None;
         }
         let counter = Counter {
@@ -60,14 +73,14 @@ impl<'a> Progress<'a> {
         Some(counter.builder_after(Tally {
             key: key.bytes(),
             count,
-            size: u32::read(area, at + 9) as u64,
-            seq: u64::read(area, at),
-            offset: u64::read(area, at + 13),
+            size: version.size() as u64,
+            seq: version.seq(),
+            offset: version.offset(),
             new_key,
         }))
     }
 
-    // The versions of the last key behind its first.
+    // The versions of the last key behind its first. The number of each is what is counted, and no index.
     fn versions(self, versions: u64) -> Option<Builder>
         requires { (0 < self.read.totals.keys) × (0 < versions) }
         ensures { result ≡ versions_read (versions - 1) self.entry.area.now self.entry.end self.entry.read 1 }
@@ -82,7 +95,7 @@ impl<'a> Progress<'a> {
     }
 
     // The key whose head stands behind the used bytes, with its versions.
-    #[tactic(auto, unfolding(crate::specs::ReadBack::key_read, crate::specs::ReadBack::versions_read_for, area::specs::Area::area_defs, num::specs::Choice::choice_defs))]
+    #[tactic(auto, unfolding(crate::specs::Internal::key_defs))]
     fn key(self) -> Option<Builder>
         ensures { result ≡ key_read self.entry.area.now self.entry.end self.entry.read }
     {
@@ -104,7 +117,7 @@ impl<'a> Progress<'a> {
     }
 }
 
-// The keys from the empty record on.
+// The keys from the empty record on, by name: `Default` would be derived in two crates for this one place.
 fn area_read(area: &[u8], end: u64) -> Option<Builder>
     requires { LentArea area.now end }
     ensures { result ≡ area_read area.now end }
@@ -125,6 +138,7 @@ fn area_read(area: &[u8], end: u64) -> Option<Builder>
         last_key: 0,
         anchor: 0,
     };
+    // No `for`: where a key ends, and so how many there are, is known only behind it.
     while read.used < end {
         read = Progress { area, end, read }.key()?;
     }
@@ -132,7 +146,7 @@ fn area_read(area: &[u8], end: u64) -> Option<Builder>
 }
 
 // Does the used area lie in the lent one, and does it read back to the record?
-#[tactic(auto, unfolding(crate::specs::ReadBack::reads_back_of, crate::specs::ReadBack::reads_back_for, crate::specs::ReadBack::same_totals, num::specs::Choice::choice_defs))]
+#[tactic(auto, unfolding(crate::specs::Internal::back_defs))]
 pub fn reads_back(area: &[u8], b: Builder) -> bool
     requires { sizeable b ≡ true }
     ensures { result ≡ reads_back_of area.now b }

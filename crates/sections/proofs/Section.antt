@@ -109,7 +109,6 @@ module _ {area : List ℕ} {t : Totals} {e : Encoding} {prefix seed : ℕ} {hash
       unfolding arena_start_of buckets_of
       tables_asked x l =
           record {
-            widths = p.fits.widths;
             few = p.few;
             places = long;
             hashed = p.hashed;

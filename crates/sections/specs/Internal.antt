@@ -3,7 +3,7 @@ use Rattle.std.specs.Prelude.{◌≡◌, List, ◌++◌, ℕ, ◌+◌, ◌*◌, 
 use Rattle.num.specs.Internal.{RegionHolds}
 use Rattle.encoding.specs.declared.Totals.{Totals}
 use Rattle.encoding.specs.declared.Encoding.{Encoding}
-use Rattle.encoding.specs.Encoding.{Widths, magic, scan_header_len, buckets_of, arena_start_of, arena_len_of, section_len_of}
+use Rattle.encoding.specs.Encoding.{magic, scan_header_len, buckets_of, arena_start_of, arena_len_of, section_len_of}
 use Rattle.construction.specs.Scratch.{indices_at, placement_in}
 use Rattle.construct.specs.Keys.{KeysStand}
 use Rattle.written.specs.Joined.{fields_bytes}
@@ -41,7 +41,6 @@ tables_bytes e seed least n prefix hashes s =
     ++ (pilots_bytes (λ x. get_or (placement_in n s).pilots x 0) (buckets_of n) ++ listed_slots e.address (placement_in n s).slots (addresses_in n s) hashes)
 
 pub record TablesAsked (e : Encoding) (n : ℕ) (hashes scratch output : List ℕ) : Type 0 where
-  pub widths : Widths e
   pub few : n ≤ 2 ^ 20
   pub places : 6 * n + 8 ≤ length scratch
   pub hashed : n ≤ length hashes
@@ -73,3 +72,8 @@ pub record SectionAsked (area : List ℕ) (t : Totals) (e : Encoding) (prefix se
   pub hashed : t.keys ≤ length hashes
   pub hash_of : HashedUnder seed (groups_in area t.keys) hashes
   pub room : section_len_of e t prefix ≤ length output
+
+-- for proofs alone: where the tables stand
+unfoldable pub place_defs : ℕ
+unfolding indices_at arena_start_of buckets_of
+place_defs = 0

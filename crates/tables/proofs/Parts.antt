@@ -3,8 +3,8 @@
 use mathlib.Core.Path.{◌≡◌, sym, ap, ap₂, ◌∙◌}
 use mathlib.Core.Bool.{Bool}
 use mathlib.Core.List.{List, [], ◌∷◌, ◌++◌, append_assoc}
-use Prim.Native.Nat.{ℕ, zero, suc, ◌+◌, ◌*◌, ◌<◌}
-use native.Mathlib.Nat.{not-suc-le-zero, add-zero}
+use Prim.Native.Nat.{ℕ, zero, suc, ◌+◌, ◌*◌, ◌^◌, ◌<◌, ◌≤◌}
+use native.Mathlib.Nat.{not-suc-le-zero, add-zero, mul-le-mul}
 use native.Mathlib.Omega.{arith}
 use lib.Dec.{ltb}
 use lib.ListN.{length, get_or, length-append}
@@ -15,8 +15,9 @@ use Rattle.num.specs.Number.{le_bytes}
 use Rattle.num.proofs.Number.{length_le_bytes}
 use Rattle.point.specs.Hash.{fingerprint_of}
 use Rattle.encoding.specs.declared.Encoding.{Encoding}
-use Rattle.encoding.specs.Encoding.{magic, scan_magic, scan_header_len, stride}
-use Rattle.num.proofs.Stores.{behind}
+use Rattle.encoding.specs.Encoding.{Widths, magic, scan_magic, scan_header_len, stride}
+use Rattle.encoding.proofs.Widths.{widths_le}
+use Rattle.num.proofs.Stores.{behind, tail_of, tail_put, sets_tail}
 use Rattle.written.specs.Joined.{joined, fields_bytes}
 use Rattle.written.specs.Joined.Field.{field}
 use Rattle.written.specs.Arena.{KeyGroup, group_address}
@@ -31,6 +32,14 @@ unfolding section_defs when◌then◌else◌
 flags_sum e zero = sym (add-zero (when e.checksum then 1 else 0))
 flags_sum e (suc p) = ap (λ (b : Bool). (when e.checksum then 1 else 0) + (when b then 2 else 0)) (sym (lt-ltb 0 (suc p) (omega arith)))
 
+-- the slots of few keys are few bytes
+pub slots_few : (e : Encoding) (n : ℕ) → Widths e → n ≤ 2 ^ 20 → n * (e.address + 2) ≤ 10485760
+slots_few e n w h =
+    let a = (widths_le e w).0 in
+    let v : e.address + 2 ≤ 10 = omega arith in
+    let m : n * (e.address + 2) ≤ 2 ^ 20 * 10 = mul-le-mul h v in
+    omega arith
+
 -- the header's halves are the header
 pub halves : (x₀ x₁ x₂ : List ℕ) (e : Encoding) (seed least n prefix : ℕ) → x₁ ≡ sets x₀ 0 (magic ++ fields_bytes (count_fields e seed n))
     → x₂ ≡ sets x₁ 32 (fields_bytes (width_fields e least prefix)) → x₂ ≡ sets x₀ 0 (magic ++ fields_bytes (prologue_fields e seed least n prefix))
@@ -42,18 +51,24 @@ halves x₀ x₁ x₂ e seed least n prefix p q =
     behind x₀ x₁ x₂ a b 0 32 (omega arith) p q
     ∙ ap (sets x₀ 0) (append_assoc magic (fields_bytes (count_fields e seed n)) b ∙ ap (λ (l : List ℕ). magic ++ l) (sym (fields_append (count_fields e seed n) (width_fields e least prefix))))
 
--- the parts of the scan part are the scan part
-pub scan_written : (x₀ x₁ x₂ x₃ addresses : List ℕ) (address prefix prefixes : ℕ) → x₁ ≡ sets x₀ 0 (scan_magic ++ fields_bytes (listed_scan_fields prefix prefixes))
-    → x₂ ≡ sets x₁ 24 (numbers_bytes address addresses) → x₃ ≡ sets x₂ (24 + length addresses * address) (le_bytes 8 (24 + length addresses * address))
+numbers_length : (width : ℕ) (numbers : List ℕ) → length (numbers_bytes width numbers) ≡ length numbers * width
+unfolding numbers_bytes
+numbers_length width numbers = even_length (λ i. le_bytes width (get_or numbers i 0)) width (length numbers) (λ i _. length_le_bytes width (get_or numbers i 0))
+
+-- the parts of the scan part are the scan part; the addresses are stored in the part behind its head
+pub scan_written : (x₀ x₁ y x₃ addresses : List ℕ) (address prefix prefixes : ℕ) → 24 + length addresses * address + 8 ≤ length x₁
+    → x₁ ≡ sets x₀ 0 (scan_magic ++ fields_bytes (listed_scan_fields prefix prefixes))
+    → y ≡ sets (tail_of 24 x₁) 0 (numbers_bytes address addresses) → x₃ ≡ sets (tail_put 24 x₁ y) (24 + length addresses * address) (le_bytes 8 (24 + length addresses * address))
     → x₃ ≡ sets x₀ 0 (listed_scan address addresses prefix prefixes)
 unfolding scan_magic tables_defs
-scan_written x₀ x₁ x₂ x₃ addresses address prefix prefixes p q r =
+scan_written x₀ x₁ y x₃ addresses address prefix prefixes h p f r =
     let fs = fields_bytes (listed_scan_fields prefix prefixes) in
     let b = numbers_bytes address addresses in
     let c = le_bytes 8 (24 + length addresses * address) in
     let k : length (scan_magic ++ fs) ≡ 24 = omega (arith, length-append scan_magic fs, fields_length (listed_scan_fields prefix prefixes)) in
-    let n : length b ≡ length addresses * address = even_length (λ i. le_bytes address (get_or addresses i 0)) address (length addresses) (λ i _. length_le_bytes address (get_or addresses i 0)) in
-    behind x₀ x₁ x₃ (scan_magic ++ fs) (b ++ c) 0 24 (omega arith) p (behind x₁ x₂ x₃ b c 24 (24 + length addresses * address) (omega arith) q r)
+    let n : length b ≡ length addresses * address = numbers_length address addresses in
+    let q = sets_tail x₁ y b 24 (omega arith) f in
+    behind x₀ x₁ x₃ (scan_magic ++ fs) (b ++ c) 0 24 (omega arith) p (behind x₁ (tail_put 24 x₁ y) x₃ b c 24 (24 + length addresses * address) (omega arith) q r)
     ∙ ap (sets x₀ 0) (append_assoc scan_magic fs (b ++ c))
 
 pub slot_size : (address : ℕ) (addresses hashes : List ℕ) (i : ℕ) → length (fields_bytes (listed_slot address addresses hashes i)) ≡ address + 2

@@ -1,10 +1,11 @@
 -- Not on the reading path: the parts of a section over the lists that its writers are lent, and what the writers ask of
 -- them.
 use Rattle.std.specs.Prelude.{◌≡◌, List, [], ◌∷◌, ◌++◌, ℕ, ◌+◌, ◌*◌, ◌^◌, ◌<◌, ◌≤◌, length, get_or}
+use Rattle.num.specs.Choice.{choice_defs}
 use Rattle.num.specs.Number.{le_bytes}
 use Rattle.point.specs.Hash.{fingerprint_of}
 use Rattle.encoding.specs.declared.Encoding.{Encoding}
-use Rattle.encoding.specs.Encoding.{Widths, header_len, scan_magic, scan_header_len, stride, buckets_of, arena_start_of}
+use Rattle.encoding.specs.Encoding.{header_len, scan_magic, scan_header_len, stride, buckets_of, arena_start_of}
 use Rattle.written.specs.Joined.{joined, Field, fields_bytes}
 use Rattle.written.specs.Joined.Field.{field}
 use Rattle.written.specs.Arena.{KeyGroup, group_address}
@@ -65,8 +66,7 @@ pub record SlotsFilled (gs : List KeyGroup) (slots : List ℕ) : Type 0 where
 
 -- ---- what the writers ask
 
-pub record HeaderRoom (e : Encoding) (count : ℕ) (output : List ℕ) : Type 0 where
-  pub widths : Widths e
+pub record HeaderRoom (count : ℕ) (output : List ℕ) : Type 0 where
   pub few : count ≤ 2 ^ 20
   pub room : header_len ≤ length output
 
@@ -80,3 +80,8 @@ pub record SlotsRoom (address : ℕ) (slots addresses hashes output : List ℕ) 
 unfoldable pub tables_defs : ℕ
 unfolding count_fields width_fields numbers_bytes listed_slot listed_slots listed_scan_fields listed_scan
 tables_defs = 0
+
+-- for proofs alone: what the flags are made of
+unfoldable pub flag_defs : ℕ
+unfolding flags_for choice_defs
+flag_defs = 0

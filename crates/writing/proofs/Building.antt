@@ -51,8 +51,11 @@ module _ {area : List ℕ} {b : Builder} {prefix size room64 room32 room : ℕ} 
   rooms = let p = both_true _ _ a.scratch in (leb-true n room64 p.0, leb-true (6 * n + 8) room32 p.1)
 
   -- what construction asks
-  pub construct_asked : ((1 ≤ n) × (n ≤ 1048576) × KeysStand area n) × ((n ≤ room64) × (6 * n + 8 ≤ room32))
-  construct_asked = ((some, measured.few, measured.keys_stand), rooms)
+  pub construct_asked : ((1 ≤ n) × (n ≤ 1048576)) × ((n ≤ room64) × (6 * n + 8 ≤ room32))
+  construct_asked = ((some, measured.few), rooms)
+
+  pub keys_stand : KeysStand area n
+  keys_stand = measured.keys_stand
 
   keys_count : length (keys_in_of area n) ≡ n
   keys_count = ap length measured.keys ∙ length-map (groups_in area n) (λ (g : KeyGroup). g.key) ∙ measured.count

@@ -13,7 +13,7 @@ use Rattle.area.specs.Area.{keys_in_of}
 use Rattle.construction.specs.Construct.{construct_of}
 use Rattle.builder.specs.declared.Builder.{Builder}
 use Rattle.writer.specs.Write.{section_for, write_of}
-use Rattle.writing.specs.Internal.{Asked, asked_of}
+use Rattle.writing.specs.Internal.{Asked, section_len_asked}
 
 -- ---- all answered with yes
 
@@ -29,9 +29,9 @@ asked_all a =
 
 -- ---- the answer to them
 
-pub passed_asked : {area : List ℕ} {b : Builder} {prefix room64 room32 room size : ℕ} → asked_of area b prefix room64 room32 room ≡ Ok size
+pub passed_asked : {area : List ℕ} {b : Builder} {prefix room64 room32 room size : ℕ} → section_len_asked area b prefix room64 room32 room ≡ Ok size
     → Asked area b prefix size room64 room32 room
-unfolding asked_of
+unfolding section_len_asked
 passed_asked q =
     let q₀ = asked _ _ _ _ q in
     let q₁ = asked _ _ _ _ q₀.1 in
@@ -48,8 +48,8 @@ unfolding when◌then◌else◌
 either_way true x y r e f q = f q
 either_way false x y r e f q = cc
 
-pub failed_asked : (area : List ℕ) (b : Builder) (prefix room64 room32 room : ℕ) (e : Refusal) → asked_of area b prefix room64 room32 room ≡ Err e
+pub failed_asked : (area : List ℕ) (b : Builder) (prefix room64 room32 room : ℕ) (e : Refusal) → section_len_asked area b prefix room64 room32 room ≡ Err e
     → write_of area b prefix room64 room32 room ≡ Err e
-unfolding asked_of write_of
+unfolding section_len_asked write_of
 failed_asked area b prefix room64 room32 room e =
     either_way _ _ _ _ e (either_way _ _ _ _ e (either_way _ _ _ _ e (either_way _ _ _ _ e (either_way _ _ _ _ e (λ q. refused_ok (sym q))))))

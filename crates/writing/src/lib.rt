@@ -1,13 +1,15 @@
-// Writing a section from the builder's area: questions 35 to 40 of writing.
+// Writing a section from the builder's area: questions 35 to 40 of writing. What `write` is lent it hands to two steps,
+// one by one, as the interface for C gives it: the area, the record beside it, the prefix, and where to write.
 #![tactic(auto)]
 
 ghost use Rattle.std.specs.Prelude.{◌≡◌, ◌^◌, ◌≤◌, length};
 ghost use Rattle.writer.specs.Write.{scratch_enough, write_of, section_written};
 ghost use Rattle.writing.specs.Wrote.{wrote_read};
-ghost use Rattle.writing.specs.Internal.{Asked, asked_of};
+ghost use Rattle.writing.specs.Internal.{Asked, section_len_asked};
 
+use area::Keys;
 use builder::Builder;
-use encoding::Encoding;
+use encoding::{Encoding, Layout};
 use refusal::{Refusal, ask};
 
 // Question 38.
@@ -20,8 +22,8 @@ fn scratch_enough(keys: u64, room64: usize, room32: usize) -> bool
 }
 
 // Questions 35 to 39: the length of the section.
-#[tactic(auto, unfolding(crate::specs::Internal::asked_of, builder::specs::Record::size_of_section, num::specs::Choice::choice_defs))]
-fn asked(
+#[tactic(auto, unfolding(crate::specs::Internal::asking_defs))]
+fn section_len_asked(
     area: &[u8],
     b: Builder,
     prefix: u64,
@@ -29,14 +31,14 @@ fn asked(
     room32: usize,
     room: usize,
 ) -> Result<u64, Refusal>
-    ensures { result ≡ asked_of area.now b prefix room64 room32 room }
+    ensures { result ≡ section_len_asked area.now b prefix room64 room32 room }
 {
     ask(
         prefix <= Encoding::MAX_SCAN_PREFIX as u64,
         Refusal::PrefixLong,
     )?;
     ask(0 < b.totals.keys, Refusal::NoKey)?;
-    let size = builder::size(b, prefix)?;
+    let size = b.size(prefix)?;
     ask(readback::reads_back(area, b), Refusal::Builder)?;
     ask(
         scratch_enough(b.totals.keys, room64, room32),
@@ -57,16 +59,33 @@ fn build(
     output: &mut [u8],
 ) -> Result<u64, Refusal>
     requires { Asked area.now b prefix size (length hashes.old) (length scratch.old) (length output.old) }
-    ensures value { result ≡ wrote_read (write_of area.now b prefix (length hashes.old) (length scratch.old) (length output.old)) }
-    ensures output_after { output.new ≡ section_written (write_of area.now b prefix (length hashes.old) (length scratch.old) (length output.old)) output.old }
-    ensures hashes_len_unchanged { (length hashes.new ≡ length hashes.old) × (length scratch.new ≡ length scratch.old) }
+    ensures value { result ≡ wrote_read
+        (write_of area.now b prefix (length hashes.old) (length scratch.old) (length output.old)) }
+    ensures output_after { output.new ≡ section_written
+        (write_of area.now b prefix (length hashes.old) (length scratch.old) (length output.old)) output.old }
+    ensures hashes_len_unchanged { (length hashes.new ≡ length hashes.old)
+        × (length scratch.new ≡ length scratch.old) }
 {
     let t = b.totals;
-    let e = Encoding::for_builder(t);
-    let Some(seed) = construct::construct(area, t.keys as usize, hashes, scratch) else {
+    let layout = Layout::for_builder(t);
+    let keys = Keys {
+        area,
+        head: 0,
+        count: t.keys as usize,
+    };
+    let Some(seed) = construct::construct(&keys, hashes, scratch) else {
         return Err(Refusal::NoSeed);
     };
-    sections::write_section(area, t, e, prefix as usize, seed, hashes, scratch, output);
+    sections::write_section(
+        area,
+        t,
+        layout,
+        prefix as usize,
+        seed,
+        hashes,
+        scratch,
+        output,
+    );
     Ok(size)
 }
 
@@ -79,10 +98,13 @@ pub fn write(
     scratch: &mut [u32],
     output: &mut [u8],
 ) -> Result<u64, Refusal>
-    ensures value { result ≡ wrote_read (write_of area.now b prefix (length hashes.old) (length scratch.old) (length output.old)) }
-    ensures output_after { output.new ≡ section_written (write_of area.now b prefix (length hashes.old) (length scratch.old) (length output.old)) output.old }
-    ensures hashes_len_unchanged { (length hashes.new ≡ length hashes.old) × (length scratch.new ≡ length scratch.old) }
+    ensures value { result ≡ wrote_read
+        (write_of area.now b prefix (length hashes.old) (length scratch.old) (length output.old)) }
+    ensures output_after { output.new ≡ section_written
+        (write_of area.now b prefix (length hashes.old) (length scratch.old) (length output.old)) output.old }
+    ensures hashes_len_unchanged { (length hashes.new ≡ length hashes.old)
+        × (length scratch.new ≡ length scratch.old) }
 {
-    let size = asked(area, b, prefix, hashes.len(), scratch.len(), output.len())?;
+    let size = section_len_asked(area, b, prefix, hashes.len(), scratch.len(), output.len())?;
     build(area, b, prefix, size, hashes, scratch, output)
 }

@@ -7,19 +7,17 @@ use Rattle.encoding.proofs.Widths.{widths_le}
 use Rattle.keyrecords.proofs.Arena.{writing_start, writing_done, address_small, anchor_now, suffix_now, head_inside, first_now, anchor_inside, stands_now, shared_now, shared_small, record_room, writing_turn}
 use Rattle.keyrecords.proofs.write_arena.Goals as goal
 
-pub key_header-header-requires : goal.key_header-header-requires
-key_header-header-requires c = c.requires.fits.widths
-
 pub loop-i-init : goal.loop-i-init
 loop-i-init c =
     let a = c.args in
-    writing_start a.area.now a.count a.e a.least a.addresses.now a.output.now
+    let s = a.source.now in
+    writing_start s.area.now s.keys s.layout.encoding s.least a.addresses.now a.output.now
 
 pub overflow_add-at : goal.overflow_add-at
 unfolding key_header_len_of
 overflow_add-at c =
     let p = c.requires in
-    let w = widths_le c.args.e p.fits.widths in
+    let w = widths_le c.args.source.now.layout.encoding p.fits.widths in
     omega (arith, c.key_header-header.ensures, address_small p c.loop-i.invariant c.loop-i-test.true)
 
 pub invariant_of-key : goal.invariant_of-key
@@ -45,7 +43,7 @@ put_key-at-requires c =
     let st = c.loop-i.invariant in
     let l = c.loop-i-test.true in
     let s = shared_now p st l _ _ (anchor_now p st l _ c.anchored-anchor.ensures) c.shared_len-shared.ensures in
-    record { widths = (p.fits.widths, stands_now p st l, shared_small p st l _ s); shared_in_bounds = record_room p st l _ s }
+    record { stand = stands_now p st l; shared_inside = shared_small p st l _ s; room = record_room p st l _ s }
 
 pub end-head-requires : goal.end-head-requires
 end-head-requires c =
@@ -65,4 +63,4 @@ pub returns : goal.returns
 returns c =
     let p = c.requires in
     let st = c.loop-i.invariant in
-    record { output_after = writing_done p st (omega arith); region_holds = region_fewer st.noted 0 c.args.count (omega arith) (omega arith); frame = st.kept }
+    record { output_after = writing_done p st (omega arith); region_holds = region_fewer st.noted 0 c.args.source.now.keys (omega arith) (omega arith); frame = st.kept }

@@ -14,19 +14,19 @@ use Rattle.keyversions.proofs.marked_size.Goals as goal
 
 pub overflow_add-result : goal.overflow_add-result
 overflow_add-result c =
-    let t = tombstone_small c.args.e c.requires.0 in
+    let t = tombstone_small c.args.layout.encoding c.args.layout.allowed in
     omega (arith, c.tombstone.ensures)
 
-pub returns-then-area-place-eq-TOMBSTONE : goal.returns-then-area-place-eq-TOMBSTONE
+pub returns-then-kind-from : goal.returns-then-kind-from
 unfolding marked_size stored_at area_kind area_size
-returns-then-area-place-eq-TOMBSTONE c =
+returns-then-kind-from c =
     let a = c.args in
-    ap₂ ◌+◌ c.tombstone.ensures c.read-size.ensures
-    ∙ ap (λ (k : Kind). marked_size a.e k (area_size a.area.now a.place)) (sym (if_true (eqb (area_kind a.area.now a.place) 2) Tombstone Put (eq-eqb _ _ c.if-area-place-eq-TOMBSTONE.true)))
+    ap₂ ◌+◌ c.tombstone.ensures c.size-size.ensures
+    ∙ ap (λ (k : Kind). marked_size a.layout.encoding k (area_size a.version.now.area.now a.version.now.place)) (sym (if_true (eqb (area_kind a.version.now.area.now a.version.now.place) 2) Tombstone Put (eq-eqb _ _ (sym c.kind.ensures ∙ c.if-kind-from.true ∙ c.from.ensures))))
 
-pub returns-else-area-place-eq-TOMBSTONE : goal.returns-else-area-place-eq-TOMBSTONE
+pub returns-else-kind-from : goal.returns-else-kind-from
 unfolding marked_size stored_at area_kind area_size
-returns-else-area-place-eq-TOMBSTONE c =
+returns-else-kind-from c =
     let a = c.args in
-    c.read-size.ensures
-    ∙ ap (λ (k : Kind). marked_size a.e k (area_size a.area.now a.place)) (sym (if_false (eqb (area_kind a.area.now a.place) 2) Tombstone Put (ne_eqb _ _ c.if-area-place-eq-TOMBSTONE.false)))
+    c.size-size.ensures
+    ∙ ap (λ (k : Kind). marked_size a.layout.encoding k (area_size a.version.now.area.now a.version.now.place)) (sym (if_false (eqb (area_kind a.version.now.area.now a.version.now.place) 2) Tombstone Put (ne_eqb _ _ (λ e. c.if-kind-from.false (c.kind.ensures ∙ e ∙ sym c.from.ensures)))))

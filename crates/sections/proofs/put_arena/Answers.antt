@@ -13,4 +13,4 @@ pub returns : goal.returns
 returns c =
     let a = c.args in
     let p = c.requires in
-    let w = c.write_arena in record { output_after = sets_tail a.output.now _ (arena_written a.e a.least (groups_in a.area.now a.count)) a.arena (omega (arith, p.asked.room, p.arena_inside, length-drop a.arena a.output.now)) w.ensures.output_after; noted = noted_tail a.scratch.now w.new.addresses a.indices a.count (group_address a.e (groups_in a.area.now a.count)) p.indices_inside p.asked.places w.ensures.region_holds w.ensures.frame }
+    let w = c.write_arena in record { output_after = sets_tail a.output.now _ (arena_written a.source.now.layout.encoding a.source.now.least (groups_in a.source.now.area.now a.source.now.keys)) a.arena (omega (arith, p.asked.room, p.arena_inside, length-drop a.arena a.output.now)) w.ensures.output_after; noted = noted_tail a.scratch.now w.new.addresses a.indices a.source.now.keys (group_address a.source.now.layout.encoding (groups_in a.source.now.area.now a.source.now.keys)) p.indices_inside p.asked.places w.ensures.region_holds w.ensures.frame }

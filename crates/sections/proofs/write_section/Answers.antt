@@ -1,7 +1,6 @@
 use mathlib.Core.Path.{◌∙◌}
 use native.Mathlib.Omega.{arith}
 use Rattle.encoding.specs.Encoding.{buckets_of}
-use Rattle.encoding.proofs.Widths.{widths_le}
 use Rattle.construction.specs.Scratch.{indices_at}
 use Rattle.sections.proofs.Section.{arena_inside, size_least, body_inside, arena_asked, tables_asked, scan_asked, section_put}
 use Rattle.sections.proofs.write_section.Goals as goal
@@ -9,18 +8,6 @@ use Rattle.sections.proofs.write_section.Goals as goal
 pub overflow_add-end : goal.overflow_add-end
 unfolding indices_at buckets_of
 overflow_add-end c = omega (arith, c.indices_at-indices.ensures, c.requires.few)
-
-pub overflow_add-arena-3 : goal.overflow_add-arena-3
-overflow_add-arena-3 c =
-    let w = widths_le c.args.e c.requires.fits.widths in omega (arith, arena_inside c.requires)
-
-pub overflow_mul-arena-2 : goal.overflow_mul-arena-2
-overflow_mul-arena-2 c =
-    let w = widths_le c.args.e c.requires.fits.widths in omega (arith, arena_inside c.requires)
-
-pub overflow_add-arena-4 : goal.overflow_add-arena-4
-overflow_add-arena-4 c =
-    let w = widths_le c.args.e c.requires.fits.widths in omega (arith, arena_inside c.requires)
 
 pub overflow_add-scan : goal.overflow_add-scan
 overflow_add-scan c = omega (arith, arena_inside c.requires, c.arena_len.ensures)

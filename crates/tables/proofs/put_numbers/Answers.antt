@@ -1,3 +1,4 @@
+use native.Mathlib.Nat.{zero-add}
 use mathlib.Core.Path.{◌≡◌, refl, ap, ◌∙◌}
 use Prim.Native.Nat.{ℕ}
 use native.Mathlib.Omega.{arith}
@@ -5,7 +6,6 @@ use lib.ListN.{length, get_or}
 use lib.Seq.{sets}
 use Rattle.num.specs.Number.{le_bytes}
 use Rattle.num.proofs.Number.{length_le_bytes}
-use Rattle.num.proofs.Parts.{entry_inside}
 use Rattle.written.specs.Joined.{joined}
 use Rattle.tables.specs.Internal.{numbers_bytes}
 use Rattle.tables.proofs.Stores.{pieces_none, pieces_more}
@@ -14,27 +14,12 @@ use Rattle.tables.proofs.put_numbers.Goals as goal
 pub loop-i-init : goal.loop-i-init
 loop-i-init c = (refl, pieces_none _ _ (λ k. length_le_bytes _ _) _ _)
 
-pub overflow_mul-i : goal.overflow_mul-i
-overflow_mul-i c =
-    let a = c.args in
-    omega (arith, entry_inside c.loop-i.i (length a.numbers.now) a.width c.loop-i-test.true, c.requires)
-
-pub overflow_add-at : goal.overflow_add-at
-overflow_add-at c =
-    let a = c.args in
-    omega (arith, entry_inside c.loop-i.i (length a.numbers.now) a.width c.loop-i-test.true, c.requires)
-
-pub put_uint-requires : goal.put_uint-requires
-put_uint-requires c =
-    let a = c.args in
-    omega (arith, entry_inside c.loop-i.i (length a.numbers.now) a.width c.loop-i-test.true, c.requires)
-
 pub loop-i-preserved : goal.loop-i-preserved
 loop-i-preserved c =
     let l = c.loop-i in
     let a = c.args in
     let p = c.put_uint in
-    (p.auto.out ∙ l.invariant.0, pieces_more (λ k. le_bytes a.width (get_or a.numbers.now k 0)) a.width (λ k. length_le_bytes a.width (get_or a.numbers.now k 0)) _ _ _ _ l.i _ refl l.invariant.1 p.ensures)
+    (p.auto.out ∙ l.invariant.0, pieces_more (λ k. le_bytes a.width (get_or a.numbers.now k 0)) a.width (λ k. length_le_bytes a.width (get_or a.numbers.now k 0)) _ _ _ _ l.i _ (zero-add _) l.invariant.1 p.ensures)
 
 pub returns : goal.returns
 unfolding numbers_bytes
@@ -42,4 +27,4 @@ returns c =
     let l = c.loop-i in
     let a = c.args in
     let n : l.i ≡ length a.numbers.now = omega arith in
-    l.invariant.1 ∙ ap (λ (k : ℕ). sets a.output.now a.at (joined (λ j. le_bytes a.width (get_or a.numbers.now j 0)) k)) n
+    l.invariant.1 ∙ ap (λ (k : ℕ). sets a.output.now 0 (joined (λ j. le_bytes a.width (get_or a.numbers.now j 0)) k)) n

@@ -5,7 +5,6 @@ use native.Mathlib.Omega.{arith}
 use lib.ListN.{length, get_or}
 use lib.Seq.{sets}
 use Rattle.num.specs.Number.{le_bytes}
-use Rattle.num.proofs.Parts.{entry_inside}
 use Rattle.written.specs.Joined.{joined, fields_bytes}
 use Rattle.tables.specs.Internal.{listed_slot, listed_slots}
 use Rattle.tables.proofs.Parts.{slot_size}
@@ -15,42 +14,17 @@ use Rattle.tables.proofs.write_slots.Goals as goal
 pub loop-m-init : goal.loop-m-init
 loop-m-init c = (refl, pieces_none _ _ (λ k. slot_size _ _ _ _) _ _)
 
-pub overflow_add-at : goal.overflow_add-at
-overflow_add-at c =
-    let a = c.args in
-    omega (arith, entry_inside c.loop-m.m (length a.slots.now) (a.e.address + 2) c.loop-m-test.true, c.requires.room)
-
-pub overflow_mul-at : goal.overflow_mul-at
-overflow_mul-at c =
-    let a = c.args in
-    omega (arith, entry_inside c.loop-m.m (length a.slots.now) (a.e.address + 2) c.loop-m-test.true, c.requires.room)
-
 pub offset_bounds-addresses-key : goal.offset_bounds-addresses-key
 offset_bounds-addresses-key c = let i = c.requires.addressed c.loop-m.m c.loop-m-test.true in omega arith
 
 pub bounds-addresses-key : goal.bounds-addresses-key
 bounds-addresses-key c = c.requires.addressed c.loop-m.m c.loop-m-test.true
 
-pub put_uint-requires : goal.put_uint-requires
-put_uint-requires c =
-    let a = c.args in
-    omega (arith, entry_inside c.loop-m.m (length a.slots.now) (a.e.address + 2) c.loop-m-test.true, c.requires.room)
-
-pub overflow_add-at-in-loop-m : goal.overflow_add-at-in-loop-m
-overflow_add-at-in-loop-m c =
-    let a = c.args in
-    omega (arith, entry_inside c.loop-m.m (length a.slots.now) (a.e.address + 2) c.loop-m-test.true, c.requires.room)
-
 pub offset_bounds-hashes-key : goal.offset_bounds-hashes-key
 offset_bounds-hashes-key c = let i = c.requires.hashed c.loop-m.m c.loop-m-test.true in omega arith
 
 pub bounds-hashes-key : goal.bounds-hashes-key
 bounds-hashes-key c = c.requires.hashed c.loop-m.m c.loop-m-test.true
-
-pub write-requires : goal.write-requires
-write-requires c =
-    let a = c.args in
-    omega (arith, entry_inside c.loop-m.m (length a.slots.now) (a.e.address + 2) c.loop-m-test.true, c.requires.room, c.put_uint.auto.out)
 
 pub loop-m-preserved : goal.loop-m-preserved
 unfolding listed_slot

@@ -2,7 +2,7 @@ use Rattle.std.proofs.Common.{sym, ◌∙◌}
 use Rattle.refusal.proofs.Asked.{asked}
 use Rattle.builder.specs.Record.{size_of_section}
 use Rattle.builder.proofs.Standing.{sizeable_bounded}
-use Rattle.writing.proofs.asked.Goals as goal
+use Rattle.writing.proofs.section_len_asked.Goals as goal
 
 pub reads_back-requires : goal.reads_back-requires
 unfolding size_of_section

@@ -4,13 +4,13 @@ use native.Mathlib.Omega.{arith}
 use Rattle.num.proofs.Choice.{if_true, if_false}
 use Rattle.area.specs.Area.{area_versions}
 use Rattle.builder.proofs.Standing.{stood, follows_key}
-use Rattle.builder.proofs.versions_with.Goals as goal
+use Rattle.builder.proofs.Builder.versions_with.Goals as goal
 
 pub returns-then-new_key : goal.returns-then-new_key
 returns-then-new_key c = sym (if_true _ _ _ c.if-new_key.true)
 
-pub overflow_add-b : goal.overflow_add-b
-overflow_add-b c =
+pub overflow_add-self : goal.overflow_add-self
+overflow_add-self c =
     let s = stood _ _ c.requires.0 in
     let k = s.keyed (follows_key _ _ c.requires.1 c.if-new_key.false) in
     omega (arith, k.last.head_inside, s.totals.used)

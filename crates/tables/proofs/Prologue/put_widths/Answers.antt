@@ -3,25 +3,9 @@ use Prim.Native.Nat.{ℕ}
 use native.Mathlib.Omega.{arith}
 use lib.Seq.{sets}
 use Rattle.num.specs.Number.{le_bytes}
-use Rattle.encoding.proofs.Widths.{widths_le}
 use Rattle.tables.specs.Internal.{width_fields}
 use Rattle.tables.proofs.Stores.{field_last, field_more}
-use Rattle.tables.proofs.put_widths.Goals as goal
-
-pub overflow_cast-e : goal.overflow_cast-e
-overflow_cast-e c = let w = widths_le c.args.e c.requires.0 in omega arith
-
-pub overflow_cast-e-2 : goal.overflow_cast-e-2
-overflow_cast-e-2 c = let w = widths_le c.args.e c.requires.0 in omega arith
-
-pub overflow_cast-e-3 : goal.overflow_cast-e-3
-overflow_cast-e-3 c = let w = widths_le c.args.e c.requires.0 in omega arith
-
-pub overflow_cast-e-4 : goal.overflow_cast-e-4
-overflow_cast-e-4 c = let w = widths_le c.args.e c.requires.0 in omega arith
-
-pub overflow_cast-e-5 : goal.overflow_cast-e-5
-overflow_cast-e-5 c = let w = widths_le c.args.e c.requires.0 in omega arith
+use Rattle.tables.proofs.Prologue.put_widths.Goals as goal
 
 pub returns : goal.returns
 unfolding width_fields

@@ -3,7 +3,7 @@ use Rattle.std.proofs.lemmas.List.Edits.{sets}
 use Rattle.num.specs.Number.{le_bytes}
 use Rattle.num.proofs.Stores.{behind_number}
 use Rattle.builder.specs.Offer.{version_bytes}
-use Rattle.adding.proofs.put_version.Goals as goal
+use Rattle.adding.proofs.write_version.Goals as goal
 
 pub returns : goal.returns
 unfolding version_bytes
