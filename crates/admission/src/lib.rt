@@ -1,7 +1,3 @@
 // Acceptance: definitions and theorems alone.
 
 #![tactic(auto)]
-
-pub fn nothing() -> u64 {
-    0
-}

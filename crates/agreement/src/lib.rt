@@ -1,7 +1,3 @@
 // The records of the blocks beside the arena: definitions and theorems alone.
 
 #![tactic(auto)]
-
-pub fn nothing() -> u64 {
-    0
-}

@@ -122,15 +122,11 @@ same_keys [] g h e (suc i) = refl
 same_keys (x ∷ gs) g h e zero = refl
 same_keys (x ∷ gs) g h e (suc i) = same_keys gs g h e i
 
-anchor_le : (i : ℕ) → group_anchor i ≤ i
-unfolding group_anchor
-anchor_le i = omega arith
-
 module _ (gs hs : List KeyGroup) (k : ℕ) (same : (i : ℕ) → i < k → group_key gs i ≡ group_key hs i) where
   same_suffix : (i : ℕ) → i < k → group_suffix gs i ≡ group_suffix hs i
-  unfolding group_suffix group_shared
+  unfolding group_suffix group_shared group_anchor
   same_suffix i h =
-      let l = anchor_le i in
+      let l : group_anchor i ≤ i = omega arith in
       ap₂ (λ (a b : List ℕ). drop (when eqb (i % group) 0 then 0 else common_prefix_len a b) b) (same (group_anchor i) (omega arith)) (same i h)
 
   same_suffixes : (i : ℕ) → i ≤ k → suffixes_before gs i ≡ suffixes_before hs i

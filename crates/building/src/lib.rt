@@ -1,7 +1,3 @@
 // From a list of adds to a section that opens: definitions and theorems alone.
 
 #![tactic(auto)]
-
-pub fn nothing() -> u64 {
-    0
-}

@@ -76,7 +76,7 @@ pub data Answered (s : List ℕ) (o : Opened) (k limit from : ℕ) (answer : Loc
   first : (i : ℕ) → FirstWithin s o k limit from i → answer ≡ Ok (Some (locator_at s o (version_place s o k i))) → Answered s o k limit from answer
 
 -- a version is followed by the next
-next_place : (s : List ℕ) (o : Opened) (k j : ℕ) → version_place s o k j + version_len_of o.encoding ≡ version_place s o k (suc j)
+pub next_place : (s : List ℕ) (o : Opened) (k j : ℕ) → version_place s o k j + version_len_of o.encoding ≡ version_place s o k (suc j)
 unfolding version_place
 next_place s o k j = omega (arith, version_size_is o.encoding)
 
@@ -204,7 +204,7 @@ module _ (t : LinkerStore) (x : Indexed t.bytes t.opened t.backing (store_entrie
       (y.version, y.version_below, y.same)
 
   -- a sequence names one version of a key
-  seq_names : (k i j : ℕ) → k < o.count → i < version_count s o k → j < version_count s o k → version_seq s o k i ≡ version_seq s o k j → i ≡ j
+  pub seq_names : (k i j : ℕ) → k < o.count → i < version_count s o k → j < version_count s o k → version_seq s o k i ≡ version_seq s o k j → i ≡ j
   seq_names k i j h p q e =
       let a : i < j → ⊥ = λ l. let z = x.falling k i j h l q in omega arith in
       let b : j < i → ⊥ = λ l. let z = x.falling k j i h l p in omega arith in

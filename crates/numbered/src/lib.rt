@@ -1,6 +1,2 @@
 // The numbers that the entries give: definitions and theorems alone.
 #![tactic(auto)]
-
-pub fn nothing() -> u64 {
-    0
-}

@@ -18,7 +18,7 @@ use Rattle.locating.specs.Store.{LinkerStore, Version}
 use Rattle.locating.specs.Looks.{lookup, Greatest, Answers}
 use Rattle.locating.proofs.Indexed.{Indexed}
 use Rattle.locating.proofs.Reading.{located_own}
-use Rattle.locating.proofs.Versions.{Answered, none, first, answered, version_at, version_key, version_seq_lem, version_held, listed, version_names}
+use Rattle.locating.proofs.Versions.{Answered, none, first, answered, version_at, version_key, version_seq_lem, version_held, listed, seq_names, version_names}
 use Rattle.spanning.specs.Spans.{ValueLies}
 
 module _ (t : LinkerStore) (x : Indexed t.bytes t.opened t.backing (store_entries t.backing t.blocks)) where
@@ -63,20 +63,13 @@ module _ (t : LinkerStore) (x : Indexed t.bytes t.opened t.backing (store_entrie
       own-lies limit v l k h key ek (ap (λ (n : List ℕ). lookup t n limit) (sym ek ∙ g.within.same_key) ∙ e) g a
       (answered s o «data» (store_entries «data» blocks) x k h limit (version_count s o k) 0 (zero-add (version_count s o k)))
 
-  -- one version of key k has a sequence
-  version_one : (k i j : ℕ) → k < o.count → i < version_count s o k → j < version_count s o k → version_seq s o k i ≡ version_seq s o k j → i ≡ j
-  version_one k i j h p q e =
-      let a : i < j → ⊥ = λ l. let z = x.falling k i j h l q in omega arith in
-      let b : j < i → ⊥ = λ l. let z = x.falling k j i h l p in omega arith in
-      omega arith
-
   -- the records of one key and sequence are one
   places_one : (k i m j : ℕ) → k < o.count → i < version_count s o k → m < o.count → j < version_count s o m → key_at s o k ≡ key_at s o m
       → version_seq s o k i ≡ version_seq s o m j → first_version s o k + i ≡ first_version s o m + j
   places_one k i m j h p l q ek es =
       let same = x.key_names k m h l ek in
       let below : j < version_count s o k = subst (λ (n : ℕ). j < version_count s o n) (sym same) q in
-      let one = version_one k i j h p below (es ∙ ap (λ (n : ℕ). version_seq s o n j) (sym same)) in
+      let one = seq_names t x k i j h p below (es ∙ ap (λ (n : ℕ). version_seq s o n j) (sym same)) in
       ap₂ (λ (n v : ℕ). first_version s o n + v) same one
 
   pub record_one : (a b : Entry) → Memᴰ a (store_entries «data» blocks) → Memᴰ b (store_entries «data» blocks) → a.key ≡ b.key

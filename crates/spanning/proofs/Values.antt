@@ -17,13 +17,13 @@ use Rattle.header.specs.declared.Opened.{Opened}
 use Rattle.arena.specs.Key.{key_header_at}
 use Rattle.versions.specs.Version.{stored_seq}
 use Rattle.agreement.specs.Keys.{key_header_size, version_size, key_header_in, address_of, key_header_of, version_count, suffix_place, key_at, version_place, version_seq}
-use Rattle.agreement.proofs.Same.{version_size_is}
 use Rattle.locator.specs.Locator.{Located}
 use Rattle.locator.specs.Locator.{readable, locator_at, versions_from}
 use Rattle.locator.proofs.Versions as located
 use Rattle.lookup.specs.Lookup.{locate_of}
 use Rattle.locating.proofs.Indexed.{Indexed}
 use Rattle.locating.proofs.Reading.{located_own}
+use Rattle.locating.proofs.Versions.{next_place}
 use Rattle.spans.specs.Span.{value_end, value_at, first_within, versions_start, key_value}
 use Rattle.spans.proofs.Values.{value_within, value_above}
 use Rattle.spanning.specs.Spans.{located_pairs}
@@ -57,11 +57,6 @@ module _ (s : List ℕ) (o : Opened) (pos limit : ℕ) (r : pos + version_len_of
       ∙ e
       ∙ ap (λ (a : Located). Ok (located_pairs a))
       (sym (located.version_above s o pos limit (suc n) n refl l b w))
-
--- a version is followed by the next
-next_place : (s : List ℕ) (o : Opened) (k j : ℕ) → version_place s o k j + version_len_of o.encoding ≡ version_place s o k (suc j)
-unfolding version_place
-next_place s o k j = omega (arith, version_size_is o.encoding)
 
 -- the first version stands behind key header and suffix
 first_place : (s : List ℕ) (o : Opened) (k : ℕ)

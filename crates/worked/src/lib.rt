@@ -1,6 +1,2 @@
 // The worked store of document 01: examples of the definitions alone.
 #![tactic(auto)]
-
-pub fn nothing() -> u64 {
-    0
-}

@@ -1,7 +1,3 @@
 // The section as bytes that are written from key groups, read back: definitions and theorems alone.
 
 #![tactic(auto)]
-
-pub fn nothing() -> u64 {
-    0
-}
