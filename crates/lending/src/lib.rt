@@ -1,4 +1,5 @@
-// Block records, of which a part is lent to the entries that take records.
+// Block records, of which a part is lent to the entries that take records. Both answer numbers, as those entries do for
+// C: the lists that are replayed hold these.
 #![tactic(auto)]
 
 ghost use Rattle.std.specs.Prelude.{◌≡◌, ◌++◌, ◌≤◌, ◌-◌, length, take, drop};
@@ -17,7 +18,8 @@ pub fn fill(
 ) -> u64
     requires { places ≤ length records.old }
     ensures { (result ≡ answer_number (filled_read (fill_of «data».now blocks.now places)))
-        × (records.new ≡ filled_places (fill_of «data».now blocks.now places) (take places records.old) ++ drop places records.old)
+        × (records.new ≡ filled_places (fill_of «data».now blocks.now places)
+        (take places records.old) ++ drop places records.old)
         × (count.new ≡ filled_count (filled_read (fill_of «data».now blocks.now places)) count.old) }
 {
     kiban::kiban_fill_blocks(data, blocks, &mut records[..places], count)

@@ -23,7 +23,7 @@ wrote_copied out part bytes at n h e k =
 pub wrote_nothing : (before : List ℕ) (at : ℕ) → at ≤ length before → Wrote before before at [] at
 wrote_nothing before at h = record { stored = refl; behind = sym (add-zero at); kept = refl; inside = h }
 
--- a part and the part behind it
+-- a part and the part behind it; the lines' answers name it, since a search that is given it does not find the order of their parts
 pub wrote_then : {a b c : List ℕ} {at m end : ℕ} {x y : List ℕ} → Wrote a b at x m → Wrote b c m y end → Wrote a c at (x ++ y) end
 wrote_then {a} {b} {c} {at} {m} {end} {x} {y} p q =
     record {

@@ -5,14 +5,25 @@
 
 ghost use Rattle.std.specs.Prelude.{◌≡◌, ◌+◌, ◌*◌, ◌<◌, ◌≤◌, false, length};
 ghost use Rattle.std.specs.Fmt.{digit_glyph};
-ghost use Rattle.lines.specs.Lines.{key_text, labelled, kind_text, names_line, record_line, live_one, mean_of, totals_line, refused_line, unreadable_line};
+ghost use Rattle.lines.specs.Lines.{
+  key_text,
+  labelled,
+  kind_text,
+  names_line,
+  record_line,
+  live_one,
+  mean_of,
+  totals_line,
+  refused_line,
+  unreadable_line,
+};
 ghost use Rattle.lines.specs.Wrote.{Wrote};
 
 use itoa::Buffer;
 use sstable::Kind;
 
-// Buffer and place stay two parameters: of a struct over a buffer each clause would have to say that it is still the
-// same buffer.
+// Buffer and place stay two parameters of `put`, `put_key`, `put_labelled` and `put_kind`: of a struct over a buffer
+// each clause would have to say that it is still the same buffer.
 #[tactic(auto, using(crate::proofs::Parts::wrote_copied))]
 fn put(out: &mut [u8], at: usize, text: &[u8]) -> usize
     requires { at + length text.now ≤ length out.old }
@@ -70,7 +81,8 @@ fn put_kind(out: &mut [u8], at: usize, kind: Kind) -> usize
     }
 }
 
-// The line of names, written at the front.
+// The line of names, written at the front. Each line says how much room it asks for, from 64 bytes on: the buffer is
+// the caller's, and may have any length.
 #[tactic(auto, unfolding(crate::specs::Lines::line_defs))]
 pub fn names_line(out: &mut [u8]) -> usize
     requires { 64 ≤ length out.old }
@@ -89,7 +101,8 @@ pub fn record_line(
     size: u64,
 ) -> usize
     requires { 2 * length key.now + 67 ≤ length out.old }
-    ensures { Wrote out.old out.new 0 (record_line (record { key = key.now; seq = seq; kind = kind; place = offset; size = size })) result }
+    ensures { Wrote out.old out.new 0
+        (record_line (record { key = key.now; seq = seq; kind = kind; place = offset; size = size })) result }
 {
     let seq_at = put_key(out, 0, key);
     let kind_at = put_labelled(out, seq_at, b" ", seq);

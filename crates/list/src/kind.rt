@@ -1,4 +1,6 @@
 //! What a row asks.
+ghost use Rattle.std.specs.Prelude.{◌≡◌};
+ghost use Rattle.list.specs.Kinds.{kind_of};
 
 /// The kinds of rows; tools/replay/README.md has their numbers.
 #[derive(Clone, Copy, Debug, PartialEq, Eq)]
@@ -29,6 +31,9 @@ pub struct UnknownKind;
 impl TryFrom<u64> for Kind {
     type Error = UnknownKind;
 
+    ghost try_from_gives = { λ number read. read ≡ kind_of number };
+
+    #[tactic(auto, unfolding(crate::specs::Kinds::kind_of, num::specs::Choice::choice_defs))]
     fn try_from(number: u64) -> Result<Kind, UnknownKind> {
         match number {
             1 => Ok(Kind::Crc),

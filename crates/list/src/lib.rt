@@ -2,6 +2,9 @@
 //! all is 0 or empty, so that nothing is asked of a caller.
 #![tactic(auto)]
 
+ghost use Rattle.std.specs.Prelude.{◌≡◌, ◌+◌, ◌-◌, ◌≤◌, ◌%◌, ◌^◌, length, min, take, cond};
+ghost use Rattle.std.proofs.lemmas.List.Edits.{sets};
+
 mod kind;
 mod row;
 
@@ -22,7 +25,10 @@ struct Tally {
 }
 
 impl Tally {
-    fn add(&mut self, agrees: bool) {
+    fn add(&mut self, agrees: bool)
+        ensures agree { self.new.agree ≡ cond agrees ((self.old.agree + 1) % 2 ^ 64) self.old.agree }
+        ensures differ { self.new.differ ≡ cond agrees self.old.differ ((self.old.differ + 1) % 2 ^ 64) }
+    {
         if agrees {
             self.agree = self.agree.wrapping_add(1);
         } else {
@@ -31,7 +37,8 @@ impl Tally {
     }
 }
 
-/// Goes over as many rows as the list says, which cannot be more than its bytes. A row of an unknown kind differs.
+/// Goes over as many rows as the list says, which cannot be more than its bytes. A row of an unknown kind differs. Each
+/// row says where the next one stands, so that a `for` over a count is what there is.
 fn replay<F: FnMut(Kind, Row<'_>) -> bool>(list: &[u8], mut agrees: F) -> Tally
     requires { F.IsAlwaysCallable agrees }
 {
@@ -60,7 +67,8 @@ fn load<'a>(rt: &impl Files, name: &str, buffer: &'a mut [u8]) -> io::Result<&'a
     Ok(&buffer[..buffer.len().min(len as usize)])
 }
 
-/// Asks the rows of the list in a file, and writes a line with the counts.
+/// Asks the rows of the list in a file, and writes a line with the counts. What a file holds, and what is written to
+/// the standard output, no contract can say.
 pub fn report<F: FnMut(Kind, Row<'_>) -> bool>(
     rt: &(impl Files + Print + Eprint),
     name: &str,
@@ -79,8 +87,10 @@ pub fn report<F: FnMut(Kind, Row<'_>) -> bool>(
 }
 
 /// Copies bytes to a place, as many as there is room for.
-pub fn put(from: &[u8], to: &mut [u8], at: u64) {
-    let to = to.get_mut(at as usize..).unwrap_or_default();
-    let len = to.len().min(from.len());
-    to[..len].copy_from_slice(&from[..len]);
+pub fn put(from: &[u8], to: &mut [u8], at: u64)
+    ensures { to.new ≡ sets to.old (min (length to.old) at) (take (length to.old - at) from.now) }
+{
+    let start = to.len().min(at as usize);
+    let len = from.len().min(to.len() - start);
+    num::put_part(to, start, &from[..len]);
 }

@@ -3,7 +3,7 @@ ghost use Rattle.std.specs.Prelude.{◌≤◌, length, IfSome, Some};
 ghost use Rattle.listing.specs.Internal.{Sound};
 
 use crate::text;
-use crate::text::Left;
+use crate::text::{Left, Loaded};
 use crate::walk::{Keys, Line, Store};
 use std::rt::Files;
 use std::{fs, io, str};
@@ -19,7 +19,7 @@ fn load<'a>(rt: &impl Files, name: &[u8], buffer: &'a mut [u8]) -> Option<&'a [u
     buffer.get(..len as usize)
 }
 
-// Prints what is left, line by line.
+// Prints what is left, line by line. It asks for each line: an iterator could not lend the buffer in which it writes.
 fn print(
     rt: &impl Print,
     store: &Store<'_>,
@@ -38,23 +38,15 @@ fn print(
     Ok(())
 }
 
-fn print_files(
-    rt: &impl Print,
-    whole: bool,
-    section: &[u8],
-    data: &[u8],
-    file: &[u8],
-) -> io::Result<()>
-    requires { (length «data».now ≤ 16384) × (length file.now ≤ 16384) }
-{
+fn print_files(rt: &impl Print, files: &Loaded<'_>) -> io::Result<()> {
     let mut blocks = [0u64; 2048];
     let mut keys = [0u8; 32768];
     let mut out = [0u8; 65536];
-    let left = text::start(whole, section, data, file, &mut blocks, &mut keys);
+    let left = text::start(files, &mut blocks, &mut keys);
     let store = Store {
-        section_len: section.len() as u64,
-        backing: data,
-        blocks: &blocks[..file.len() / 8],
+        section_len: files.section.len() as u64,
+        backing: files.backing,
+        blocks: &blocks[..files.list.len() / 8],
     };
     print(rt, &store, &mut keys, &mut out, left)
 }
@@ -72,11 +64,11 @@ pub fn run(
     let section = load(rt, section_name, &mut section);
     let data = load(rt, data_name, &mut data);
     let list = load(rt, list_name, &mut list);
-    print_files(
-        rt,
-        section.is_some() && data.is_some() && list.is_some(),
-        section.unwrap_or_default(),
-        data.unwrap_or_default(),
-        list.unwrap_or_default(),
-    )
+    let files = Loaded {
+        whole: section.is_some() && data.is_some() && list.is_some(),
+        section: section.unwrap_or_default(),
+        backing: data.unwrap_or_default(),
+        list: list.unwrap_or_default(),
+    };
+    print_files(rt, &files)
 }

@@ -9,11 +9,8 @@ ghost use Rattle.lines.specs.Lines.{record_line, live_one};
 ghost use Rattle.lines.specs.Wrote.{Wrote};
 ghost use Rattle.listing.specs.Internal.{IsSmall, Reached, Stepping, Listed};
 
-use block::Record;
+use block::{ENTRY_FIXED_LEN, Entries, Record};
 use num::LittleEndian;
-
-// An entry's bytes before its key's own.
-const ENTRY_FIXED_LEN: usize = 21;
 
 // A store that is listed: how long its section is, its data and its block list. No file of it has more than 16,384
 // bytes.
@@ -26,7 +23,8 @@ pub struct Store<'a> {
 }
 
 // The buffers for the key before, and for a line. A key has no more bytes than a file, and two digits in its line for
-// each.
+// each. They stay parameters beside the store and what is left of it: in one struct, which changes as a whole, each
+// clause would have to say that the store is the same afterwards.
 pub type Keys = [u8; 32768];
 
 pub type Line = [u8; 65536];
@@ -41,7 +39,7 @@ pub struct Place {
     pub live: u64,
 }
 
-// The bytes of a block, as far as the data have them.
+// The bytes of a block, as far as the data have them; offset and length are a pair of the block list as it was read.
 fn block_part(data: &[u8], offset: usize, len: usize) -> &[u8]
     ensures { result.now ≡ block_bytes «data».now offset len }
 {
@@ -60,7 +58,8 @@ fn entries_end(raw: &[u8]) -> usize
     behind.saturating_sub(4 * u32::read(raw, behind) as usize)
 }
 
-// The line of a record that was met at a place of a block, which starts at an offset of the data.
+// The line of a record that was met at a place of a block, which starts at an offset of the data. That it was met there
+// is asked of this one caller, `list_next`.
 fn list_record(
     raw: &[u8],
     offset: usize,
@@ -71,9 +70,11 @@ fn list_record(
 ) -> (usize, Place)
     requires key_len_value { record_at raw.now (entries_end_in raw.now) p.pos p.key_len ≡ Ok r }
     requires listed { Listed raw.now offset p r }
-    ensures wrote { Wrote out.old out.new 0 (record_line (in_data offset (entry_of raw.now p.pos (take p.key_len keys.old) r))) result.0 }
+    ensures wrote { Wrote out.old out.new 0
+        (record_line (in_data offset (entry_of raw.now p.pos (take p.key_len keys.old) r))) result.0 }
     ensures keys_after { take r.key_len keys.new ≡ (entry_of raw.now p.pos (take p.key_len keys.old) r).key }
-    ensures place_value { result.1 ≡ record { pair = p.pair; pos = r.next; key_len = r.key_len; live = p.live + live_one r.kind } }
+    ensures place_value { result.1
+        ≡ record { pair = p.pair; pos = r.next; key_len = r.key_len; live = p.live + live_one r.kind } }
 {
     block::copy_key(
         raw,
@@ -99,15 +100,17 @@ fn list_record(
     (len, behind)
 }
 
-// The next record's line; or, where a block's records end, none, and on to the next pair.
+// The next record's line; or, where a block's records end, none, and on to the next pair. A pair by its place:
+// `as_chunks` gives all pairs, and a step of the listing takes one.
 pub fn list_next(store: &Store<'_>, p: Place, keys: &mut Keys, out: &mut Line) -> (usize, Place)
     requires { Reached store.now.backing.now store.now.blocks.now p × (p.pair + 1 < length store.now.blocks.now) }
-    ensures { Stepping store.now.backing.now store.now.blocks.now p keys.old result.1 keys.new (take result.0 out.new) × (result.0 ≤ length out.new) }
+    ensures { Stepping store.now.backing.now store.now.blocks.now p keys.old result.1 keys.new (take result.0 out.new)
+        × (result.0 ≤ length out.new) }
 {
     let offset = store.blocks[p.pair] as usize;
     let len = store.blocks[p.pair + 1] as usize;
     let raw = block_part(store.backing, offset, len);
-    match block::record_at(raw, entries_end(raw), p.pos, p.key_len) {
+    match Entries::new(raw, entries_end(raw)).record_at(p.pos, p.key_len) {
         Ok(r) => list_record(raw, offset, p, r, keys, out),
         Err(_) => {
             let next_pair = Place {

@@ -88,3 +88,8 @@ seed_written (Err n) before = before
 unfoldable pub PlacedAs : Result Constructed Refusal → Placement → Type 0
 PlacedAs (Ok c) t = t ≡ c.placement
 PlacedAs (Err n) t = Unit {0}
+
+-- for proofs alone: `unfolding length_defs` opens what the length of a section is probed by
+unfoldable pub length_defs : ℕ
+unfolding totals_of size_probe length_probe
+length_defs = 0

@@ -27,8 +27,11 @@ ghost use Rattle.probe.specs.Probe.{
   PlacedAs,
 };
 
+use area::Keys;
+use block::Entries;
 use builder::Builder;
 use encoding::Totals;
+use refusal::Refusal;
 
 #[unsafe(no_mangle)]
 pub extern "C" fn probe_crc32_update(state: u32, data: &[u8]) -> u32
@@ -69,6 +72,8 @@ pub extern "C" fn probe_bucket(h: u64, count: u64) -> u64
     point::bucket(h, count)
 }
 
+// This export and the next ask the same of the pilot and the number of places: C callers need both names, and a
+// function of the two tests would be handed the one call in which they differ.
 #[unsafe(no_mangle)]
 pub extern "C" fn probe_position(h: u64, pilot: u64, n: u64) -> u64
     ensures { result ≡ position_probe h pilot n }
@@ -103,7 +108,7 @@ pub extern "C" fn probe_width(max: u64) -> u64
 }
 
 #[unsafe(no_mangle)]
-#[tactic(auto, unfolding(crate::specs::Probe::length_probe, crate::specs::Probe::size_probe, crate::specs::Probe::totals_of))]
+#[tactic(auto, unfolding(crate::specs::Probe::length_defs))]
 pub extern "C" fn probe_section_len(totals: &[u64; 9], prefix: u64) -> u64
     ensures { result ≡ length_probe (totals_of totals.now) prefix }
 {
@@ -118,13 +123,14 @@ pub extern "C" fn probe_section_len(totals: &[u64; 9], prefix: u64) -> u64
         max_versions: totals[7],
         last_value_offset: totals[8],
     };
+    // By name: the empty places are needed here and in `readback` alone.
     let b = Builder {
         totals: t,
         used: 0,
         last_key: 0,
         anchor: 0,
     };
-    builder::size(b, prefix).unwrap_or(0)
+    b.size(prefix).unwrap_or(0)
 }
 
 #[unsafe(no_mangle)]
@@ -156,7 +162,7 @@ pub extern "C" fn probe_verify(raw: &[u8], meta: &mut [u64; 3]) -> u64
     }
 }
 
-// As above.
+// The name of an older form, as `probe_crc32_lent`.
 #[unsafe(no_mangle)]
 pub extern "C" fn probe_verify_lent(table: &[[u32; 256]; 8], raw: &[u8], meta: &mut [u64; 3]) -> u64
     ensures { (result ≡ answer_number (verify_of raw.now)) × (meta.new ≡ meta_written (verify_of raw.now) meta.old) }
@@ -175,20 +181,27 @@ pub extern "C" fn probe_record(
     fields: &mut [u64; 6],
 ) -> u64
     ensures { (result ≡ record_number (length scratch.old) (step_probe raw.now entries_end pos key_len))
-        × (fields.new ≡ probed_record_written (length scratch.old) (step_probe raw.now entries_end pos key_len) fields.old)
+        × (fields.new
+        ≡ probed_record_written (length scratch.old) (step_probe raw.now entries_end pos key_len) fields.old)
         × (scratch.new ≡ key_written raw.now pos (step_probe raw.now entries_end pos key_len) scratch.old) }
 {
     let end = entries_end as usize;
     if raw.len() < end {
-        return 13;
+        return Refusal::Entry.number();
     }
     let at = pos as usize;
-    match block::record_at(raw, end, at, key_len as usize) {
+    match Entries::new(raw, end).record_at(at, key_len as usize) {
         Ok(r) => {
             if scratch.len() < r.key_len {
-                return 15;
+                return Refusal::KeyRoom.number();
             }
-            block::copy_key(raw, at + 21, r.key_len - r.shared, scratch, r.shared);
+            block::copy_key(
+                raw,
+                at + block::ENTRY_FIXED_LEN,
+                r.key_len - r.shared,
+                scratch,
+                r.shared,
+            );
             fields[0] = u8::from(r.kind) as u64;
             fields[1] = r.seq;
             fields[2] = r.key_len as u64;
@@ -201,8 +214,8 @@ pub extern "C" fn probe_record(
     }
 }
 
-// Construction over the keys of an area; pilots and slots are left in the scratch. This probe asks that the area holds the keys, and that
-// hashes and scratch are long enough.
+// Construction over the keys of an area; pilots and slots are left in the scratch. C hands over an area and a number,
+// so this probe asks that the area holds the keys, and that hashes and scratch are long enough.
 #[unsafe(no_mangle)]
 pub extern "C" fn probe_construct(
     area: &[u8],
@@ -217,12 +230,16 @@ pub extern "C" fn probe_construct(
         × (seed.new ≡ seed_written (construct_of (keys_in_of area.now count)) seed.old)
         × PlacedAs (construct_of (keys_in_of area.now count)) (placement_in count scratch.new) }
 {
-    let built = construct::construct(area, count as usize, hashes, scratch);
-    match built {
+    let keys = Keys {
+        area,
+        head: 0,
+        count: count as usize,
+    };
+    match construct::construct(&keys, hashes, scratch) {
         Some(s) => {
             *seed = s;
             0
         }
-        None => 40,
+        None => Refusal::NoSeed.number(),
     }
 }

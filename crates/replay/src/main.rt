@@ -11,6 +11,8 @@ use list::{Kind, Row};
 use std::io;
 use std::rt::Files;
 
+// Each kind has its question: a `match` on the enum says so once, where a table of functions would repeat the kinds'
+// order.
 fn agrees(kind: Kind, row: Row<'_>) -> bool {
     match kind {
         Kind::Crc => leaves::crc(row),

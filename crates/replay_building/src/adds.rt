@@ -11,6 +11,8 @@ const MOST_WORDS: usize = 1026;
 
 const MOST_HALVES: usize = 6159;
 
+// No method: part of one field and the whole of another are lent at once, which the check does not take of a struct
+// that is lent itself.
 fn add_to(area: &mut [u8], record: &mut [u64; 16], mut row: Row<'_>) -> bool {
     let room = row.room(area.len());
     let tombstone = row.number();
@@ -56,7 +58,7 @@ impl Builder {
     }
 
     // Adds the numbers below one: each is a new key of four bytes, its greatest first, with an empty value. All are
-    // taken.
+    // taken. The `for` is over the numbers that are added.
     pub fn add_numbers(&mut self, mut row: Row<'_>) -> bool {
         let mut taken = true;
         for n in 0..row.number() {
@@ -66,8 +68,8 @@ impl Builder {
         taken
     }
 
-    // The record and the CRC-32 of the used area.
-    pub fn holds(&self, mut row: Row<'_>) -> bool {
+    // Are these the record, and the CRC-32 of the used area?
+    pub fn is_as_stated(&self, mut row: Row<'_>) -> bool {
         let used = self
             .area
             .get(..self.record[3] as usize)

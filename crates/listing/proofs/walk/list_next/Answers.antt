@@ -8,6 +8,7 @@ use Rattle.std.proofs.Common.{Ok, Err}
 use Rattle.block.specs.Record.{record_at}
 use Rattle.block.specs.Verify.{entries_end_in}
 use Rattle.block.specs.Walk.{entry_of}
+use Rattle.block.proofs.Step.{record_in}
 use Rattle.lines.proofs.Parts.{put_line}
 use Rattle.listing.proofs.Blocks.{block_inside, met_inside}
 use Rattle.listing.proofs.Steps.{pair_steps, record_stepping}
@@ -19,7 +20,7 @@ list_record-requires c =
     let pre = c.requires in
     let bytes = c.block_part-raw.ensures in
     let raw = c.block_part-raw.result.now in
-    let met = ap (λ (n : ℕ). record_at raw n a.p.pos a.p.key_len) (sym c.entries_end.ensures.0) ∙ sym c.record_at.ensures ∙ c.in-Ok.is in
+    let met = ap (λ (n : ℕ). record_at raw n a.p.pos a.p.key_len) (sym c.entries_end.ensures.0) ∙ record_in _ _ c.new.ensures.0 c.new.ensures.1 c.record_at.ensures ∙ c.in-Ok.is in
     let h = pre.0 in
     let n = ap length bytes in
     let i = met_inside raw a.p.pos a.p.key_len _ met in
@@ -32,7 +33,7 @@ returns-in-Ok c =
     let pre = c.requires in
     let bytes = c.block_part-raw.ensures in
     let raw = c.block_part-raw.result.now in
-    let met = ap (λ (n : ℕ). record_at raw n a.p.pos a.p.key_len) (sym c.entries_end.ensures.0) ∙ sym c.record_at.ensures ∙ c.in-Ok.is in
+    let met = ap (λ (n : ℕ). record_at raw n a.p.pos a.p.key_len) (sym c.entries_end.ensures.0) ∙ record_in _ _ c.new.ensures.0 c.new.ensures.1 c.record_at.ensures ∙ c.in-Ok.is in
     let r = c.in-Ok.r in
     let after = c.list_record.new.keys in
     let w = c.list_record.ensures in (
@@ -49,7 +50,7 @@ returns-in-Err c =
     let pre = c.requires in
     let bytes = c.block_part-raw.ensures in
     let raw = c.block_part-raw.result.now in
-    let met = ap (λ (n : ℕ). record_at raw n a.p.pos a.p.key_len) (sym c.entries_end.ensures.0) ∙ sym c.record_at.ensures ∙ c.in-Err.is in (
+    let met = ap (λ (n : ℕ). record_at raw n a.p.pos a.p.key_len) (sym c.entries_end.ensures.0) ∙ record_in _ _ c.new.ensures.0 c.new.ensures.1 c.record_at.ensures ∙ c.in-Err.is in (
       pair_steps a.store.now.backing.now a.store.now.blocks.now a.p a.keys.now (search rules) (omega arith) pre.0 pre.1 _
           (subst (λ (x : List ℕ). record_at x (entries_end_in x) a.p.pos a.p.key_len ≡ Err c.in-Err.field-0) bytes met),
       omega arith,
