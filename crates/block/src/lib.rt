@@ -200,11 +200,10 @@ pub fn verify(raw: &[u8]) -> Result<BlockMeta, Refusal>
 }
 
 // Copies the bytes that a key does not share behind those that it does. It takes places, which its callers have from a
-// record: of parts that each of them cuts off it would be `copy_from_slice` alone, and each would prove this equation.
-#[tactic(auto, using(num::proofs::Copy::copied))]
+// record: of parts that each of them cuts off it would be `num::put_part` alone, and each would prove this equation.
 pub fn copy_key(data: &[u8], from: usize, count: usize, scratch: &mut [u8], at: usize)
     requires { (from + count ≤ length «data».now) × (at + count ≤ length scratch.old) }
     ensures { scratch.new ≡ sets scratch.old at (take count (drop from «data».now)) }
 {
-    scratch[at..at + count].copy_from_slice(&data[from..from + count]);
+    num::put_part(scratch, at, &data[from..from + count]);
 }

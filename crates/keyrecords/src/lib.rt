@@ -71,7 +71,7 @@ fn put_key(
             versions,
         },
     );
-    output[place..end].copy_from_slice(&key.bytes()[shared..]);
+    num::put_part(output, place, &key.bytes()[shared..]);
     source.put_versions(key.first(), versions, output, end)
 }
 

@@ -40,13 +40,15 @@ pub fn put_uint(out: &mut [u8], at: usize, width: usize, value: u64)
     }
 }
 
-// Writes a part at a place: the library's copy, with the contract that its callers rest on.
-#[tactic(auto, using(crate::proofs::Copy::copied))]
+// Writes a part at a place, byte by byte: the library's `copy_from_slice` would have the archive for C ask for `memmove`
+// from outside, which a freestanding caller need not have. All copies of any length go through here.
 pub fn put_part(out: &mut [u8], at: usize, part: &[u8])
     requires { at + length part.now ≤ length out.old }
     ensures { out.new ≡ sets out.old at part.now }
 {
-    out[at..at + part.len()].copy_from_slice(part);
+    for i in 0..part.len() {
+        out[at + i] = part[i];
+    }
 }
 
 // For widths that no type has: the contract of `put_uint` takes any. By index: the loop's rule says how many bytes

@@ -47,13 +47,12 @@ pub struct Carried {
 
 // Copies the key at the scratch's front behind its half. It takes the scratch whole, with the number at which it is
 // divided, as `move_on` does: both contracts speak of the one list, as the definitions do.
-#[tactic(auto, using(num::proofs::Copy::copied))]
 fn keep_key(scratch: &mut [u8], half: usize, count: usize)
     requires { (count ≤ half) × (half + half ≤ length scratch.old) }
     ensures { scratch.new ≡ sets scratch.old half (take count scratch.old) }
 {
     let (key, last) = scratch.split_at_mut(half);
-    last[..count].copy_from_slice(&key[..count]);
+    num::put_part(last, 0, &key[..count]);
 }
 
 // Behind a record that was visited: a key's first record leaves its key as the last one.
