@@ -18,10 +18,10 @@ use std::{fs, io};
 const LONGEST: usize = 65536;
 
 /// How many rows agree and how many differ.
-#[derive(Drop)]
-struct Tally {
-    agree: u64,
-    differ: u64,
+#[derive(Clone, Copy)]
+pub struct Tally {
+    pub agree: u64,
+    pub differ: u64,
 }
 
 impl Tally {

@@ -80,6 +80,15 @@ impl<'a> Row<'a> {
         rest.get(..len as usize).unwrap_or(rest)
     }
 
+    /// How much is lent for the next bytes: their length as the row says it, or the most there is. The bytes themselves
+    /// may be fewer, cut off at the list's end.
+    pub fn bytes_room(mut self, most: usize) -> usize
+        ensures { result ≡ min (number_at self.entry.list.now (behind self.entry.place)) most }
+    {
+        self.number();
+        self.room(most)
+    }
+
     /// The numbers whose place is the next number.
     pub fn named(&mut self) -> Row<'a>
         ensures place { result.place ≡ number_at self.old.list.now self.old.place }

@@ -26,7 +26,8 @@ fn is_packed(section: &[u8], o: Opened) -> bool
         return false;
     }
     let packed = header::packed_record(found);
-    packed.arena < section.len() - Encoding::TRAILER && packed == o
+    let arena = packed.arena;
+    arena < section.len() - Encoding::TRAILER && packed == o
 }
 
 // Question 24 of a plain record.

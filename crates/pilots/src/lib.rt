@@ -19,6 +19,7 @@ const FEW: usize = 8;
 
 // Is the slot one of the candidates? Of many its index says which, if it is one; what other slots have there has no
 // say.
+#[tactic(auto, using(crate::proofs::Candidates::which_yes, crate::proofs::Candidates::which_no))]
 fn is_candidate(candidates: &[u32], indices: &[u32], at: u32) -> bool
     requires { (at < length indices.now) × (few < length candidates.now → Indexed candidates.now indices.now) }
     ensures { result ≡ one_of candidates.now at }

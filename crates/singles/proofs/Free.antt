@@ -1,40 +1,37 @@
--- Looking for the first free slot.
+-- Looking for the least free slot, from a place that is not behind it.
 -- Assumes nothing.
-use Rattle.std.proofs.Common.{◌≡◌, ℕ, zero, suc, ◌+◌, ◌-◌, ◌<◌, ◌≤◌, Bool, true, false, List, length, get_or, sym, ap, ◌∙◌, arith, eq-eqb}
-use native.Mathlib.Nat.{sub-zero}
-use borrow.Author.Tests.{ne_eqb}
-use Rattle.construction.specs.Construct.{is_free, free_from, least_free}
+use Rattle.std.proofs.Common.{◌≡◌, ℕ, suc, ◌+◌, ◌<◌, ◌≤◌, Bool, true, false, List, length, get_or, refl, sym, ap, ◌∙◌, arith, eqb, ltb, eq-eqb, eqb-true}
+use borrow.Author.Tests.{eqb-false, ltb-true, ltb-false}
+use Rattle.num.proofs.Choice.{false_true}
+use Rattle.construction.specs.Construct.{is_free, least_free}
+use Rattle.construction.proofs.Free.{before_least}
+use Rattle.singles.specs.Internal.{HasFree}
 
-module _ (slots : List ℕ) (at : ℕ) (inside : at < length slots) where
-  left : length slots - at ≡ suc (length slots - (at + 1))
-  left = omega arith
-
-  turn : (b : Bool) → is_free slots at ≡ b → free_from (length slots - at) slots at ≡ elim b [ true ↦ at | false ↦ free_from (length slots - (at + 1)) slots (at + 1) ]
-  unfolding free_from
-  turn b e =
-      ap (λ (count : ℕ). free_from count slots at) left
-      ∙ ap (λ (c : Bool). elim c [ true ↦ at | false ↦ free_from (length slots - (at + 1)) slots (at + 1) ]) e
-
-  pub free_here : get_or slots at 0 ≡ length slots → free_from (length slots - at) slots at ≡ at
+module _ {slots : List ℕ} (has : HasFree slots) (at : ℕ) (passed : at ≤ least_free slots) where
+  -- a slot that is taken is not the one
+  pub free_later : (get_or slots at 0 ≡ length slots → ⊥) → at + 1 ≤ least_free slots
   unfolding is_free
-  free_here e = turn true (eq-eqb _ _ e)
+  free_later n = go (eqb at (least_free slots)) refl
+    where
+      go : (t : Bool) → eqb at (least_free slots) ≡ t → at + 1 ≤ least_free slots
+      go true e = absurd (n (ap (λ (k : ℕ). get_or slots k 0) (eqb-true at (least_free slots) e) ∙ eqb-true _ _ has.free))
+      go false e = let d = eqb-false at (least_free slots) e in omega arith
 
-  pub free_later : (get_or slots at 0 ≡ length slots → ⊥) → free_from (length slots - at) slots at ≡ free_from (length slots - (at + 1)) slots (at + 1)
+  -- and one that is free is
+  pub free_here : get_or slots at 0 ≡ length slots → at ≡ least_free slots
   unfolding is_free
-  free_later n = turn false (ne_eqb _ _ n)
+  free_here e = go (eqb at (least_free slots)) refl
+    where
+      go : (t : Bool) → eqb at (least_free slots) ≡ t → at ≡ least_free slots
+      go true p = eqb-true at (least_free slots) p
+      go false p =
+          let d = eqb-false at (least_free slots) p in
+          absurd (false_true (sym (before_least slots at has.inside (omega arith)) ∙ eq-eqb _ _ e))
 
-pub free_end : (slots : List ℕ) (at : ℕ) → length slots ≤ at → free_from (length slots - at) slots at ≡ at
-unfolding free_from
-free_end slots at h =
-    let none : length slots - at ≡ 0 = omega arith in
-    ap (λ (count : ℕ). free_from count slots at) none
-
--- where all slots before a place are taken, the first free one from there on is the least
-pub free_behind : (slots : List ℕ) (at : ℕ) → at ≤ length slots → ((i : ℕ) → i < at → is_free slots i ≡ false) → free_from (length slots - at) slots at ≡ least_free slots
-unfolding least_free
-free_behind slots zero h taken = ap (λ (count : ℕ). free_from count slots 0) (sub-zero (length slots))
-free_behind slots (suc at) h taken =
-    let next : at + 1 ≡ suc at = omega arith in
-    ap (λ (k : ℕ). free_from (length slots - k) slots k) (sym next)
-    ∙ sym (turn slots at h false (taken at (omega arith)))
-    ∙ free_behind slots at (omega arith) (λ i l. taken i (omega arith))
+-- where all slots before a place are taken, the least free one is not before it
+pub free_passed : {slots : List ℕ} → HasFree slots → (from : ℕ) → ((i : ℕ) → i < from → is_free slots i ≡ false) → from ≤ least_free slots
+free_passed {slots} has from taken = go (ltb (least_free slots) from) refl
+  where
+    go : (t : Bool) → ltb (least_free slots) from ≡ t → from ≤ least_free slots
+    go true p = absurd (false_true (sym (taken (least_free slots) (ltb-true _ _ p)) ∙ has.free))
+    go false p = ltb-false _ _ p

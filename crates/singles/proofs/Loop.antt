@@ -5,12 +5,13 @@ use native.Mathlib.Numerals.{add-one}
 use lib.ListN.{drop_of_length-le}
 use lib.Seq.{drop-cons}
 use borrow.Author.Tests.{eqb-false}
-use Rattle.construction.specs.Construct.{Placement, bucket_count, members_of, size_of, order_of, is_free, free_from, least_free, place_single, place_singles}
+use Rattle.construction.specs.Construct.{Placement, bucket_count, members_of, size_of, order_of, is_free, least_free, place_single, place_singles}
 use Rattle.construction.proofs.Buckets.{member_below}
 use Rattle.construction.proofs.Free.{store_taken, store_other, before_least}
 use Rattle.construction.proofs.Order.{order_length}
 use Rattle.construction.proofs.Singles.{Left, single_is, single_not, single_free, single_left}
-use Rattle.singles.proofs.Free.{free_behind}
+use Rattle.singles.specs.Internal.{HasFree}
+use Rattle.singles.proofs.Free.{free_passed}
 
 -- the first k buckets of the order are placed
 pub record Running (hs : List ℕ) (t₀ : Placement) (k from : ℕ) (pilots slots : List ℕ) : Type 0 where
@@ -55,35 +56,36 @@ module _ {hs : List ℕ} {t₀ : Placement} {k from : ℕ} {pilots slots : List 
         }
 
     -- a bucket that has one
-    module _ (one : size_of hs x ≡ 1) (free : ℕ) (ef : free ≡ free_from (length slots - from) slots from) where
+    module _ (one : size_of hs x ≡ 1) where
       known : (least_free slots < length slots) × (is_free slots (least_free slots) ≡ true)
       known = single_free hs now x (drop (k + 1) (order_of hs)) left_now one
 
-      least : free ≡ least_free slots
-      least = ef ∙ free_behind slots from (omega (arith, run.inside, run.left.shape.slots_length)) run.taken
+      pub has_free : HasFree slots
+      has_free = record { inside = known.0; free = known.1 }
 
-      pub free_inside : free < length hs
-      free_inside = let q = known.0 in omega (arith, least, run.left.shape.slots_length)
+      pub passed : from ≤ least_free slots
+      passed = free_passed has_free from run.taken
 
-      -- the slots below the next place are taken
-      taken_next : (v : ℕ) → v < length hs → (i : ℕ) → i < free + 1 → is_free (set slots free v) i ≡ false
-      taken_next v key i l = go (eqb i free) refl
-        where
-          go : (t : Bool) → eqb i free ≡ t → is_free (set slots free v) i ≡ false
-          go true e =
-              let n = run.left.shape.slots_length in
-              ap (is_free (set slots free v)) (eqb-true i free e) ∙ store_taken slots free v (omega (arith, free_inside)) (omega arith)
-          go false e =
-              let d = eqb-false i free e in
-              store_other slots free v i d ∙ before_least slots i known.0 (omega (arith, least))
+      module _ (free : ℕ) (least : free ≡ least_free slots) where
+        -- the slots below the next place are taken
+        taken_next : (v : ℕ) → v < length hs → (i : ℕ) → i < free + 1 → is_free (set slots free v) i ≡ false
+        taken_next v key i l = go (eqb i free) refl
+          where
+            go : (t : Bool) → eqb i free ≡ t → is_free (set slots free v) i ≡ false
+            go true e =
+                let n = run.left.shape.slots_length in
+                ap (is_free (set slots free v)) (eqb-true i free e) ∙ store_taken slots free v (omega (arith, known.0)) (omega arith)
+            go false e =
+                let d = eqb-false i free e in
+                store_other slots free v i d ∙ before_least slots i known.0 (omega (arith, least))
 
-      pub running_placed : (v : ℕ) → v ≡ get_or (members_of hs x) 0 0 → Running hs t₀ (k + 1) (free + 1) (set pilots x (2 ^ 31 + free)) (set slots free v)
-      running_placed v ev =
-          let e : place_single hs now x ≡ record { pilots = set pilots x (2 ^ 31 + free); slots = set slots free v } =
-          single_is hs now x one ∙ ap₂ (λ (a w : ℕ). record { pilots = set pilots x (2 ^ 31 + a); slots = set slots a w }) (sym least) (sym ev) in
-          record {
-            inside = omega (arith, free_inside);
-            taken = taken_next v (omega (arith, ev, member_below hs x 0 (omega arith)));
-            left = subst (λ (t : Placement). Left hs t (drop (k + 1) (order_of hs))) e (single_left hs now x (drop (k + 1) (order_of hs)) left_now);
-            same = ap (λ (t : Placement). place_singles hs t (drop (k + 1) (order_of hs))) (sym e) ∙ same_next;
-          }
+        pub running_placed : (v : ℕ) → v ≡ get_or (members_of hs x) 0 0 → Running hs t₀ (k + 1) (free + 1) (set pilots x (2 ^ 31 + free)) (set slots free v)
+        running_placed v ev =
+            let e : place_single hs now x ≡ record { pilots = set pilots x (2 ^ 31 + free); slots = set slots free v } =
+            single_is hs now x one ∙ ap₂ (λ (a w : ℕ). record { pilots = set pilots x (2 ^ 31 + a); slots = set slots a w }) (sym least) (sym ev) in
+            record {
+              inside = omega (arith, known.0);
+              taken = taken_next v (omega (arith, ev, member_below hs x 0 (omega arith)));
+              left = subst (λ (t : Placement). Left hs t (drop (k + 1) (order_of hs))) e (single_left hs now x (drop (k + 1) (order_of hs)) left_now);
+              same = ap (λ (t : Placement). place_singles hs t (drop (k + 1) (order_of hs))) (sym e) ∙ same_next;
+            }

@@ -2,25 +2,26 @@
 // in `pilots`.
 #![tactic(auto)]
 
-ghost use Rattle.std.specs.Prelude.{◌≡◌, ◌-◌, ◌≤◌, length};
-ghost use Rattle.construction.specs.Construct.{bucket_count, order_of, free_from, place_singles};
+ghost use Rattle.std.specs.Prelude.{◌≡◌, ◌<◌, ◌≤◌, length};
+ghost use Rattle.construction.specs.Construct.{bucket_count, order_of, least_free, place_singles};
 ghost use Rattle.construction.specs.Internal.{free_count, singles_in};
+ghost use Rattle.singles.specs.Internal.{HasFree};
 
 use construction::Arranged;
 
-// The first free slot from one on; the slot behind them, if none is free. By `position` over the slots from there on
-// the proof didn't close. `from` stays beside the slots: it is one of their numbers, as the answer is.
+// The least free slot, which is `from` or later. There is one, so nothing is answered for none, and the search is no
+// `for` over the slots, which would end behind them. `from` stays beside the slots: it is one of their numbers, as the
+// answer is.
 fn next_free(slots: &[u32], from: usize) -> usize
-    requires { from ≤ length slots.now }
-    ensures first { result ≡ free_from (length slots.now - from) slots.now from }
-    ensures inside { result ≤ length slots.now }
+    requires has_free { HasFree slots.now }
+    requires passed { from ≤ least_free slots.now }
+    ensures { (result ≡ least_free slots.now) × (result < length slots.now) }
 {
-    for at in from..slots.len() {
-        if slots[at] as usize == slots.len() {
-            return at;
-        }
+    let mut at = from;
+    while slots[at] as usize != slots.len() {
+        at += 1;
     }
-    slots.len()
+    at
 }
 
 // The buckets of one key, in the order of the buckets.
