@@ -4,3 +4,5 @@ pub mod Register
 pub mod Division
 pub mod Table
 pub mod Chunks
+pub mod Walk
+pub mod Halves

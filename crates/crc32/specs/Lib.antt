@@ -1,2 +1,3 @@
 pub mod V42
 pub mod Table
+pub mod Halves
