@@ -1,6 +1,6 @@
 -- The lines that the program `keys` prints (document 01, "One store, worked through"), as the bytes of their ASCII.
-use Rattle.std.specs.Prelude.{ℕ, ◌+◌, ◌/◌, ◌%◌, List, [], ◌∷◌, ◌++◌, codes, decimal, false}
-use Rattle.std.specs.Fmt.{digit_glyph, digits}
+use Rattle.std.specs.Prelude.{ℕ, zero, suc, ◌+◌, ◌/◌, ◌%◌, List, [], ◌∷◌, ◌++◌, codes, true, false, ltb}
+use Rattle.std.specs.Fmt.{digit_glyph}
 use Rattle.sstable.specs.declared.Kind.{Kind}
 use Rattle.sstable.specs.declared.Kind.TheVariants.{Put, Tombstone}
 use Rattle.block.specs.Walk.{Entry}
@@ -15,9 +15,18 @@ abbrev pub key_text : List ℕ → List ℕ
 key_text [] = codes "-"
 key_text (b ∷ bs) = hex_of (b ∷ bs)
 
+-- the decimal digits of a number, at most as many as the first number says
+unfoldable pub decimal_from : ℕ → ℕ → List ℕ
+decimal_from zero n = []
+decimal_from (suc f) n = elim (ltb n 10) [ true ↦ (48 + n) ∷ [] | false ↦ decimal_from f (n / 10) ++ (48 + n % 10) ∷ [] ]
+
+-- a number in decimal: it has no more digits than one more than itself
+unfoldable pub decimal_of : ℕ → List ℕ
+decimal_of n = decimal_from (suc n) n
+
 -- a number in decimal behind a label
 abbrev pub labelled : List ℕ → ℕ → List ℕ
-labelled label n = label ++ decimal n
+labelled label n = label ++ decimal_of n
 
 -- a kind's letter, P or T, behind a space
 abbrev pub kind_text : Kind → List ℕ
@@ -66,5 +75,5 @@ unreadable_line = codes "unreadable\n"
 
 -- for proofs alone: `unfolding line_defs` opens the definitions of this file
 unfoldable pub line_defs : ℕ
-unfolding digits names_line record_line live_one live_of totals_line refused_line unreadable_line
+unfolding decimal_from decimal_of names_line record_line live_one live_of totals_line refused_line unreadable_line
 line_defs = 0
