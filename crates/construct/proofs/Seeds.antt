@@ -54,7 +54,7 @@ module _ (keys : List (List ℕ)) (h new : List ℕ) (count seed : ℕ) (size : 
   new_length : length new ≡ count
   new_length = ap length stored ∙ hashes_length keys seed ∙ size
 
-  hashes_part : take count (new ++ drop count h) ≡ hashes_of keys seed
+  pub hashes_part : take count (new ++ drop count h) ≡ hashes_of keys seed
   hashes_part = take_at new (drop count h) count new_length ∙ stored
 
   pub hashes_first : take (length keys) (new ++ drop count h) ≡ hashes_of keys seed

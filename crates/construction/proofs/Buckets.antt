@@ -20,7 +20,7 @@ module _ (hs : List ℕ) {starts members : List ℕ} (m : SortedParts (key_bucke
   start_read : get_or starts x 0 ≡ class_start (key_buckets hs) x
   start_read = region_at m.starts_held x x (omega arith) (omega arith) (omega arith)
 
-  size_read : get_or starts (x + 1) 0 ≡ get_or starts x 0 + size_of hs x
+  pub size_read : get_or starts (x + 1) 0 ≡ get_or starts x 0 + size_of hs x
   unfolding size_of members_of
   size_read = region_at m.starts_held (x + 1) (suc x) (omega arith) (omega arith) (omega arith) ∙ omega (arith, start_next (key_buckets hs) x, start_read)
 

@@ -26,7 +26,7 @@ use Rattle.spans.specs.Span.{scannable}
 use Rattle.usual.specs.Internal.{usual_numbers, fields_match, start_matches, scan_matches, ScanRecord}
 
 -- a number from 1 below 3 is 1 or 2
-one_or_two : (xs : List ℕ) (w : ℕ) → 1 ≤ w → w < 3 → true ≡ one_of (1 ∷ 2 ∷ xs) w
+pub one_or_two : (xs : List ℕ) (w : ℕ) → 1 ≤ w → w < 3 → true ≡ one_of (1 ∷ 2 ∷ xs) w
 unfolding one_of either
 one_or_two xs w l h = go (eqb w 1) refl
   where

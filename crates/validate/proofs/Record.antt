@@ -6,8 +6,8 @@ use mathlib.Core.Bool.{Bool, true, false}
 use Prim.Native.Nat.{ℕ, ◌+◌, ◌-◌, ◌≤◌}
 use native.Mathlib.Omega.{arith}
 use lib.Dec.{eqb, leb}
-use lib.ListN.{length, get_or, take, drop, length-append}
-use lib.Seq.{sets, length-take-le, take-take}
+use lib.ListN.{length, get_or, take, drop, length-append, length-drop}
+use lib.Seq.{sets, sets-eq, length-take-le, take-take}
 use borrow.Author.Tests.{le-leb, eq-eqb, ne_eqb}
 use Rattle.num.specs.Choice.{when◌then◌else◌}
 use Rattle.num.proofs.Copy.{copied}
@@ -104,11 +104,15 @@ visit_parts s «data» o end c scratch half p k seq kind place size h =
     λ i. visit_of s o end c (take (n i) (drop half scratch)) (record { key = take k scratch; seq = seq; kind = kind; place = place; size = l i }) (take (m i) (drop place «data»))
 
 -- the key that is copied behind its half
-pub key_kept : (s front back copy : List ℕ) (half count : ℕ) → count ≤ half → half + half ≤ length s → front ≡ take half s → back ≡ drop half s → copy ≡ take count front
-    → front ++ (copy ++ drop count back) ≡ sets s half (take count s)
-key_kept s front back copy half count h l f b c =
-    let p : copy ≡ take count s = c ∙ ap (take count) f ∙ take-take count half s h in
-    rw (p, f, b) (copied s (take count s) half count (omega arith) (length-take-le count s (omega arith)))
+pub key_kept : (s front back last : List ℕ) (half count : ℕ) → count ≤ half → half + half ≤ length s → front ≡ take half s → back ≡ drop half s
+    → last ≡ sets back 0 (take count front) → front ++ last ≡ sets s half (take count s)
+key_kept s front back last half count h l f b e =
+    let p : take count front ≡ take count s = ap (take count) f ∙ take-take count half s h in
+    let n : length (take count s) ≡ count = length-take-le count s (omega arith) in
+    let behind : 0 + length (take count s) ≡ count = omega (arith, n) in
+    let set : sets (drop half s) 0 (take count s) ≡ take count s ++ drop count (drop half s) =
+    sets-eq (take count s) (drop half s) 0 (omega (arith, n, length-drop half s)) ∙ ap (λ (k : ℕ). take count s ++ drop k (drop half s)) behind in
+    rw (e, p, f, b) (ap (λ (r : List ℕ). take half s ++ r) set ∙ copied s (take count s) half count (omega arith) n)
 
 module _ (half : ℕ) (scratch : List ℕ) (w : Carried) (n : ℕ) (c : Cursor) (h : n ≤ half) (l : half + half ≤ length scratch) where
   -- a key's first record leaves its key as the last one

@@ -1,10 +1,9 @@
-use Rattle.std.proofs.Common.{◌≡◌, ℕ, ◌+◌, ◌-◌, ◌≤◌, List, length, drop, refl, ap, ◌∙◌, arith, length-drop}
+use Rattle.std.proofs.Common.{◌≡◌, ℕ, ◌+◌, ◌-◌, ◌≤◌, length, take, drop, refl, ap, ◌∙◌, arith, length-drop}
 use Rattle.std.proofs.lemmas.List.Edits.{sets}
 use lib.Seq.{take_all}
-use Rattle.num.proofs.Copy.{copied}
 use Rattle.area.specs.Area.{first_version_at}
 use Rattle.keyrecords.specs.Internal.{key_record_size}
-use Rattle.keyrecords.proofs.Records.{key_length, record_parts}
+use Rattle.keyrecords.proofs.Records.{record_parts}
 use Rattle.keyrecords.proofs.put_key.Goals as goal
 
 pub returns-clause-output_after : goal.returns-clause-output_after
@@ -15,10 +14,8 @@ returns-clause-output_after c =
     let key = c.bytes.result.now in
     let inside : first_version_at area head ≤ length area = omega (arith, c.requires.stand.inside) in
     let place = c.args.at + c.key_header.result in
-    let suffix = c.copy_from_slice.ensures.after ∙ take_all (length key - c.args.shared) (drop c.args.shared key) (omega (arith, length-drop c.args.shared key)) in
-    let n : length c.copy_from_slice.new.self ≡ place + (c.len.result - c.args.shared) - place = omega (arith, ap (λ (l : List ℕ). length l) suffix, length-drop c.args.shared key, ap (λ (l : List ℕ). length l) c.bytes.ensures, key_length area head inside, c.len.ensures) in
-    let part = copied _ c.copy_from_slice.new.self place (place + (c.len.result - c.args.shared) - place)
-    (omega (arith, c.put_key_header.auto.output, c.requires.room, c.len.ensures, c.key_header.ensures)) n in
+    let suffix : take (length key - c.args.shared) (drop c.args.shared key) ≡ drop c.args.shared key =
+    take_all (length key - c.args.shared) (drop c.args.shared key) (omega (arith, length-drop c.args.shared key)) in
     record_parts _ _ area key _ _ _ _ head _ _ _ _ _ _ _ _ inside (ap (λ (n : ℕ). n - c.args.shared) c.len.ensures) c.versions-versions.ensures
     (ap (λ (n : ℕ). c.args.at + n) c.key_header.ensures) refl c.bytes.ensures c.first.ensures c.put_key_header.ensures
-    (part ∙ ap (sets c.put_key_header.new.output place) suffix) c.put_versions.ensures.output_after
+    (c.put_part.ensures ∙ ap (sets c.put_key_header.new.output place) suffix) c.put_versions.ensures.output_after
