@@ -8,7 +8,7 @@ use native.Mathlib.Nat.{suc-mul}
 use native.Mathlib.Omega.{arith}
 use lib.Dec.{eqb}
 use borrow.Author.Tests.{eqb-true, eqb-false, eq-eqb, ne_eqb}
-use Rattle.std.specs.Prelude.{Result, Ok, Err}
+use Rattle.std.specs.Prelude.{Result, Ok, Err, IfOk}
 use Rattle.refusal.specs.declared.Refusal.{Refusal}
 use Rattle.refusal.proofs.Asked.{refused_ok, asked}
 use Rattle.num.specs.Choice.{when◌then◌else◌}
@@ -16,10 +16,11 @@ use Rattle.block.specs.Walk.{Entry}
 use Rattle.encoding.specs.Encoding.{version_len_of}
 use Rattle.header.specs.declared.Opened.{Opened}
 use Rattle.arena.specs.declared.Cursor.{Cursor}
-use Rattle.arena.specs.Internal.{Readable, Inside}
+use Rattle.arena.specs.Internal.{Readable, Inside, Standing}
 use Rattle.arena.specs.Key.{key_of}
 use Rattle.versions.specs.Version.{version_agrees, checksum_agrees, advanced, version_for, visit_of}
 use Rattle.arena.proofs.Entering.{key_inside}
+use Rattle.arena.proofs.Reading.{inside_standing}
 
 -- a version that passes questions 20 and 21, and the cursor behind it
 pub version_advanced : (s : List ℕ) (o : Opened) (e : Entry) (value : List ℕ) (c d : Cursor) → version_for s o e value (Ok c) ≡ Ok d
@@ -41,6 +42,12 @@ pub visit_first : (s : List ℕ) (o : Opened) (end : ℕ) (c : Cursor) (previous
     → visit_of s o end c previous e value ≡ version_for s o e value (key_of s o end c previous e.key)
 unfolding visit_of when◌then◌else◌
 visit_first s o end c previous e value z = rw (eq-eqb _ _ z)
+
+-- a key that is entered stands in the arena
+pub entered_stands : (s : List ℕ) (o : Opened) (end : ℕ) (c : Cursor) (previous key : List ℕ) → Inside s o end c
+    → (r : Result Cursor Refusal) → r ≡ key_of s o end c previous key → IfOk r (λ d. Standing s o d)
+entered_stands s o end c previous key i (Ok d) e = let k = key_inside s o end c previous key d i (sym e) in inside_standing s o end d k.0 k.1
+entered_stands s o end c previous key i (Err n) e = tt
 
 -- a version follows a key that was entered
 version_behind : (s : List ℕ) (o : Opened) (e : Entry) (value : List ℕ) (v : Result Cursor Refusal) (d : Cursor) → version_for s o e value v ≡ Ok d

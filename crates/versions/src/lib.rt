@@ -1,12 +1,13 @@
 // A record of the blocks beside the version at the cursor: questions 20 and 21, and behind a key's end 16 to 19 first.
 #![tactic(auto)]
 
-ghost use Rattle.std.specs.Prelude.{◌≡◌, ◌+◌, ◌*◌, ◌<◌, ◌≤◌, eqb, ltb, length, Ok};
-ghost use Rattle.num.specs.Choice.{both, either};
+ghost use Rattle.std.specs.Prelude.{◌≡◌, ◌+◌, ◌*◌, ◌<◌, ◌≤◌, eqb, ltb, length, Ok, IfOk};
+ghost use Rattle.num.specs.Choice.{when◌then◌else◌, both, either};
 ghost use Rattle.num.specs.Order.{equal_bytes};
 ghost use Rattle.num.specs.Number.{le_at};
 ghost use Rattle.encoding.specs.Encoding.{Widths, tombstone_of};
 ghost use Rattle.arena.specs.Internal.{Standing};
+ghost use Rattle.arena.specs.Key.{key_of};
 ghost use Rattle.versions.specs.Version.{
   stored_key,
   stored_value,
@@ -68,10 +69,12 @@ impl<'a> Version<'a> {
         Layout::new(self.opened.encoding)
     }
 
-    // Is the key the anchor's shared part and the suffix?
+    // Is the key the anchor's shared part and the suffix? By `num::same_part`: `==` of two slices is a call, which each
+    // record would make twice.
     fn stored_key_equal(&self, key: &[u8]) -> bool
         ensures { result ≡ equal_bytes key.now (stored_key self.now.section.now self.now.opened self.now.cursor) }
     {
+        let section = self.section;
         let c = self.cursor;
         let shared = c.shared;
         if key.len() < shared {
@@ -80,13 +83,10 @@ impl<'a> Version<'a> {
         if key.len() - shared != c.suffix_len {
             return false;
         }
-        let anchor = self.opened.arena + c.anchor;
-        let anchor_end = anchor + shared;
-        if key[..shared] != self.section[anchor..anchor_end] {
+        if !num::same_part(key, 0, section, self.opened.arena + c.anchor, shared) {
             return false;
         }
-        let suffix_end = c.suffix + c.suffix_len;
-        key[shared..] == self.section[c.suffix..suffix_end]
+        num::same_part(key, shared, section, c.suffix, c.suffix_len)
     }
 
     // A key's versions have falling sequences.
@@ -185,26 +185,35 @@ impl<'a> Version<'a> {
     }
 }
 
-// Questions 16 to 21 of a record behind the last key.
-#[tactic(auto, using(arena::proofs::Entering::key_inside, arena::proofs::Reading::inside_standing), unfolding(crate::specs::Version::visit_of, crate::specs::Version::version_for, num::specs::Choice::choice_defs))]
+// The key that a record is a version of: the one that the cursor stands in, or, behind the last key, the next one, of
+// which questions 16 to 19 are asked.
+#[tactic(auto, using(arena::proofs::Reading::inside_standing), unfolding(num::specs::Choice::choice_defs))]
+fn entered(arena: &Arena<'_>, previous: &[u8], key: &[u8]) -> Result<Cursor, Refusal>
+    ensures value { result
+        ≡ (when eqb arena.now.cursor.remaining 0
+        then key_of arena.now.section.now arena.now.opened arena.now.end arena.now.cursor previous.now key.now
+        else Ok arena.now.cursor) }
+    ensures stands { IfOk result (λ cursor. Standing arena.now.section.now arena.now.opened cursor) }
+{
+    if arena.cursor.remaining == 0 {
+        arena.key_record(previous, key)
+    } else {
+        Ok(arena.cursor)
+    }
+}
+
+// Questions 16 to 21 of a record behind the last key. A version is made in one place: in two, the compiler would lay it
+// out in memory for each record.
+#[tactic(auto, unfolding(crate::specs::Version::visit_of, crate::specs::Version::version_for, num::specs::Choice::choice_defs))]
 pub fn visit(arena: &Arena<'_>, previous: &[u8], found: RecordInfo<'_>) -> Result<Cursor, Refusal>
     ensures { result
         ≡ visit_of arena.now.section.now arena.now.opened arena.now.end arena.now.cursor previous.now
         (entry_lent found.entry) found.entry.value.now }
 {
-    let (section, opened, cursor) = (arena.section, arena.opened, arena.cursor);
-    if cursor.remaining != 0 {
-        let version = Version {
-            section,
-            opened,
-            cursor,
-        };
-        return version.record_asked(found);
-    }
-    let entered = arena.key_record(previous, found.key)?;
+    let entered = entered(arena, previous, found.key)?;
     let version = Version {
-        section,
-        opened,
+        section: arena.section,
+        opened: arena.opened,
         cursor: entered,
     };
     version.record_asked(found)
