@@ -139,18 +139,18 @@ enum kiban_builder_place {
     KIBAN_B_ANCHOR = 11    /* place in the area */
 };
 
-/* The CRC-32 of the data: the 32-bit frame check sequence of ITU-T V.42. Stack: no bytes. */
+/* The CRC-32 of the data: the 32-bit frame check sequence of ITU-T V.42. Stack: 32 bytes. */
 uint32_t kiban_crc32(const uint8_t *data, size_t data_len);
 
 /* Opens a section beside its backing data and its block list: pairs of offset and length, `blocks_len` numbers in all,
  * which cover the data from 0 to its end in order, without gaps (11, 22). The scratch has KIBAN_KEY_SCRATCH_LEN(longest
- * key) bytes, else 15. On 0 the record is written. Stack: 2,098 bytes. */
+ * key) bytes, else 15. On 0 the record is written. Stack: 1,052 bytes. */
 uint64_t kiban_open(const uint8_t *section, size_t section_len, const uint8_t *data, size_t data_len,
                     const uint64_t *blocks, size_t blocks_len, uint8_t *scratch, size_t scratch_len,
                     uint64_t record[KIBAN_RECORD]);
 
 /* Opens a section as kiban_open does, and writes its packed form to the output. On 0 the record is the packed one,
- * `*len` is the number of packed bytes, and the output keeps what it held behind them. Stack: 2,290 bytes. */
+ * `*len` is the number of packed bytes, and the output keeps what it held behind them. Stack: 1,308 bytes. */
 uint64_t kiban_open_packed(const uint8_t *section, size_t section_len, const uint8_t *data, size_t data_len,
                            const uint64_t *blocks, size_t blocks_len, uint8_t *scratch, size_t scratch_len,
                            uint8_t *output, size_t output_len, uint64_t record[KIBAN_RECORD], uint64_t *len);
@@ -169,7 +169,7 @@ uint64_t kiban_value(const uint8_t *data, size_t data_len, uint64_t offset, uint
 /* The values of `count` neighbouring keys from key `first` on (counted from 0, in key order) under a limit: of each
  * key's version of greatest sequence not above the limit, unless that is a tombstone. On 0 the pairs (offset, length)
  * stand in key order in the first 2 * `*found` places, and the places behind them are kept. For sections with a scan
- * part and 4-byte addresses, opened plain (27). No entry tells the place of a key among the keys. Stack: 786 bytes, 424
+ * part and 4-byte addresses, opened plain (27). No entry tells the place of a key among the keys. Stack: 777 bytes, 424
  * for one key of a section whose widths are 4, 1, 1, at most 4, and 2. */
 uint64_t kiban_span(const uint8_t *section, size_t section_len, const uint64_t record[KIBAN_RECORD],
                     uint64_t first, uint64_t count, uint64_t limit, uint64_t *pairs, size_t pairs_len, uint64_t *found);
@@ -191,7 +191,7 @@ uint64_t kiban_size(const uint64_t builder[KIBAN_RECORD], uint64_t prefix, uint6
 
 /* Writes the section of the entries added, with a scan part for spans if the prefix is 1 to 24. The same entries and
  * prefix give the same bytes on every machine. On 0 the section stands at the front of the output, `*len` is its
- * length, and what is behind it is kept. Stack: 936 bytes. */
+ * length, and what is behind it is kept. Stack: 904 bytes. */
 uint64_t kiban_write(const uint8_t *area, size_t area_len, const uint64_t builder[KIBAN_RECORD], uint64_t prefix,
                      uint64_t *scratch64, size_t scratch64_len, uint32_t *scratch32, size_t scratch32_len,
                      uint8_t *output, size_t output_len, uint64_t *len);
@@ -207,7 +207,7 @@ struct kiban_block_record {
 };
 
 /* Writes a record for each pair of the block list, in its order, once every pair passes 11 and 12 and has a place (41,
- * `records_len` places). On 0 `*count` is how many, and the records behind them are kept. Stack: 192 bytes. */
+ * `records_len` places). On 0 `*count` is how many, and the records behind them are kept. Stack: 220 bytes. */
 uint64_t kiban_fill_blocks(const uint8_t *data, size_t data_len, const uint64_t *blocks, size_t blocks_len,
                            struct kiban_block_record *records, size_t records_len, uint64_t *count);
 
