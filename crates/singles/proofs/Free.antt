@@ -1,6 +1,6 @@
 -- Looking for the least free slot, from a place that is not behind it.
 -- Assumes nothing.
-use Rattle.std.proofs.Common.{◌≡◌, ℕ, suc, ◌+◌, ◌<◌, ◌≤◌, Bool, true, false, List, length, get_or, refl, sym, ap, ◌∙◌, arith, eqb, ltb, eq-eqb, eqb-true}
+use Rattle.std.proofs.Common.{◌≡◌, ℕ, ◌+◌, ◌<◌, ◌≤◌, Bool, true, false, List, length, get_or, refl, sym, ap, ◌∙◌, arith, eqb, ltb, eq-eqb, eqb-true}
 use borrow.Author.Tests.{eqb-false, ltb-true, ltb-false}
 use Rattle.num.proofs.Choice.{false_true}
 use Rattle.construction.specs.Construct.{is_free, least_free}

@@ -1,6 +1,6 @@
 -- The walk over the order of the buckets: what is left to place, from the pilots and slots so far, gives what was to be placed at first.
 -- Assumes nothing.
-use Rattle.std.proofs.Common.{◌≡◌, ℕ, suc, ◌+◌, ◌-◌, ◌^◌, ◌<◌, ◌≤◌, Bool, true, false, List, ◌∷◌, eqb, length, get_or, drop, set, refl, sym, ap, ap₂, ◌∙◌, subst, arith, eqb-true}
+use Rattle.std.proofs.Common.{◌≡◌, ℕ, suc, ◌+◌, ◌^◌, ◌<◌, ◌≤◌, Bool, true, false, List, ◌∷◌, eqb, length, get_or, drop, set, refl, sym, ap, ap₂, ◌∙◌, subst, arith, eqb-true}
 use native.Mathlib.Numerals.{add-one}
 use lib.ListN.{drop_of_length-le}
 use lib.Seq.{drop-cons}
