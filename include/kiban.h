@@ -191,7 +191,7 @@ uint64_t kiban_size(const uint64_t builder[KIBAN_RECORD], uint64_t prefix, uint6
 
 /* Writes the section of the entries added, with a scan part for spans if the prefix is 1 to 24. The same entries and
  * prefix give the same bytes on every machine. On 0 the section stands at the front of the output, `*len` is its
- * length, and what is behind it is kept. Stack: 904 bytes. */
+ * length, and what is behind it is kept. Stack: 888 bytes. */
 uint64_t kiban_write(const uint8_t *area, size_t area_len, const uint64_t builder[KIBAN_RECORD], uint64_t prefix,
                      uint64_t *scratch64, size_t scratch64_len, uint32_t *scratch32, size_t scratch32_len,
                      uint8_t *output, size_t output_len, uint64_t *len);
