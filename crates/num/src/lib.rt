@@ -42,7 +42,7 @@ pub fn put_uint(out: &mut [u8], at: usize, width: usize, value: u64)
 
 // Writes a part at a place, byte by byte: by `copy_from_slice` the archive for C would ask for `memmove` from outside,
 // which a caller without a C library need not have. All copies of the archive whose length is not constant go through
-// here.
+// here. By index, for the reason that `put_bytes` has.
 pub fn put_part(out: &mut [u8], at: usize, part: &[u8])
     requires { at + length part.now ≤ length out.old }
     ensures { out.new ≡ sets out.old at part.now }

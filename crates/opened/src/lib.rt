@@ -26,6 +26,7 @@ fn is_packed(section: &[u8], o: Opened) -> bool
         return false;
     }
     let packed = header::packed_record(found);
+    // Its own start, and not the header's: by a name, so that a must-fail edit changes the value alone.
     let arena = packed.arena;
     arena < section.len() - Encoding::TRAILER && packed == o
 }
