@@ -23,7 +23,9 @@ pub fn lookup(
 {
     // Each step of the hash needs the one before; the tests of 24 need none of them, and run beside it.
     let h = point::hash(key, numbers[0]);
-    if !held::holds(section, numbers) {
+    // By a name, so that a must-fail edit changes the value alone.
+    let is_held = held::holds(section, numbers);
+    if !is_held {
         return Refusal::RecordGiven.number();
     }
     let o = numbers::read_record(numbers);
